@@ -1,0 +1,5 @@
+pub mod Choice
+pub mod Bools
+pub mod Lists
+pub mod ListLaws
+pub mod Loops

@@ -1,0 +1,49 @@
+-- What a pattern, an entry and a table by value stand for, and what is so of each that the hub makes; nodes as they stand in bytes.
+use Prim.Native.Nat.{ℕ, zero, suc, _+_, _*_, _≤_}
+use mathlib.Core.Path.{_≡_}
+use mathlib.Core.List.{List, [], _∷_, map, List·Memᴰ}
+use lib.ListN.{length, getD, take}
+use Rattle.meaning.specs.Numbers.{mostSteps, mostEntries}
+use Rattle.meaning.specs.Forest.{Forest, forest, stepsOf}
+use Rattle.meaning.specs.Sections.{Node}
+use Rattle.meaning.specs.Sections
+use Rattle.meaning.specs.declared.Step.{Step}
+use Rattle.shapes.specs.declared.Pattern.{Pattern}
+use Rattle.shapes.specs.declared.Entry.{Entry}
+use Rattle.shapes.specs.declared.Table.{Table}
+
+-- the steps that are there
+unfoldable pub stepsIn : Pattern → List Step
+stepsIn p = take (p .count) (p .steps)
+
+unfoldable pub patternOf : Pattern → Forest
+patternOf p = forest (stepsIn p)
+
+-- a pattern that is well formed: its steps are those of its forest, as they are written, so they stand in preorder, each
+-- with a parent above it and an axis 0 or 1
+pub record SoundPattern (p : Pattern) : Type 0 where
+  pub few : p .count ≤ mostSteps
+  pub full : length (p .steps) ≡ 16
+  pub written : stepsOf (patternOf p) ≡ stepsIn p
+
+unfoldable pub entryOf : Entry → Sections.Entry
+entryOf e = record { members = e .members; pattern = patternOf (e .pattern) }
+
+-- the entries that are there
+unfoldable pub entriesIn : Table → List Entry
+entriesIn t = take (t .count) (t .entries)
+
+unfoldable pub tableOf : Table → List Sections.Entry
+tableOf t = map entryOf (entriesIn t)
+
+pub record SoundTable (t : Table) : Type 0 where
+  pub few : t .count ≤ mostEntries
+  pub full : length (t .entries) ≡ 64
+  pub patterns : (e : Entry) → List·Memᴰ e (entriesIn t) → SoundPattern (e .pattern)
+
+-- n nodes as they stand in bytes from a place on: two bytes of parent, the low one first, and a label
+unfoldable pub nodesAt : List ℕ → ℕ → ℕ → List Node
+nodesAt bs at zero = []
+nodesAt bs at (suc n) =
+    record { parent = getD bs at 0 + 256 * getD bs (at + 1) 0; label = getD bs (at + 2) 0 }
+    ∷ nodesAt bs (at + 3) n

@@ -1,0 +1,37 @@
+// Patterns, entries and tables by value, and what each stands for (specs/Shapes.antt).
+use meaning::Step;
+ghost use mathlib.Core.Path.{_≡_};
+ghost use Rattle.meaning.specs.Forest.{none};
+ghost use Rattle.shapes.specs.Shapes.{patternOf, SoundPattern};
+
+// A pattern: the first `count` of its steps, in preorder.
+pub struct Pattern {
+    pub count: usize,
+    pub steps: [Step; 16],
+}
+
+// An entry: bit i of the members is subscription i.
+pub struct Entry {
+    pub members: u64,
+    pub pattern: Pattern,
+}
+
+// A table: the first `count` of its entries.
+pub struct Table {
+    pub count: usize,
+    pub entries: [Entry; 64],
+}
+
+// The pattern without steps.
+pub fn no_steps() -> Pattern
+    ensures { λ r. ⌜ (patternOf r ≡ none) × SoundPattern r ⌝ }
+{
+    Pattern {
+        count: 0,
+        steps: [Step {
+            parent: 0,
+            axis: 0,
+            label: 0,
+        }; 16],
+    }
+}
