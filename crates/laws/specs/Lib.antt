@@ -1,1 +1,2 @@
 -- The theorems about the definitions of `meaning`.
+pub mod Rising
