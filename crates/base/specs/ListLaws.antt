@@ -1,15 +1,15 @@
 -- What `some`, `every`, `keep`, `total` and `numbersFrom` tell of an element, and how they are shown.
 use Prim.Native.Nat.{ℕ, zero, suc, _+_, _≤_, _<_}
-use mathlib.Core.Path.{_≡_, refl, sym, _∙_, ap, subst}
+use mathlib.Core.Path.{_≡_, refl, sym, _∙_, ap}
 use mathlib.Core.Logic.{_⊎_, inl, inr, ⊎-elim}
-use mathlib.Core.Bool.{Bool, true, false, not, _&&_, _||_, false≢true}
+use mathlib.Core.Bool.{Bool, true, false, false≢true}
 use mathlib.Core.List.{List, [], _∷_, _++_, List·Memᴰ, List·Memᴰ·head, List·Memᴰ·tail, List·Memᴰ·cases-cons}
 use native.Mathlib.Omega.{arith}
 use native.Mathlib.Nat.{add-assoc, eq-or-lt-of-le}
-use lib.ListN.{length, getD}
+use lib.ListN.{length}
 use Rattle.base.specs.Bools.{and-first, and-second, and-both, or-cases, or-first, or-second}
 use Rattle.base.specs.Choice.{pick}
-use Rattle.base.specs.Lists.{numbersFrom, some, every, keep, total, without}
+use Rattle.base.specs.Lists.{numbersFrom, some, every, keep, total}
 
 module _ {A : Type 0} where
   -- what holds of some element holds of one that is in the list

@@ -1,11 +1,10 @@
 -- What loops compute, each as one definition: a reading run, a test of every number, a fold over numbers, the first hit.
 -- A loop's invariant is that what is left of it from here gives what all of it gives from the start.
 use Prim.Native.Nat.{ℕ, zero, suc, _+_, _-_, _<_, _≤_}
-use mathlib.Core.Path.{_≡_, refl, sym, ap, _∙_}
+use mathlib.Core.Path.{_≡_, sym, ap, _∙_}
 use mathlib.Core.Bool.{Bool, true, false, _&&_, _||_}
 use native.Mathlib.Omega.{arith}
-use native.Mathlib.Numerals.{add-one}
-use Rattle.base.specs.Choice.{pick, pick-true, pick-false}
+use Rattle.base.specs.Choice.{pick}
 use Rattle.base.specs.declared.Cur.{Cur}
 use Rattle.base.specs.declared.Cur.the-variants.{At, No}
 

@@ -1,12 +1,12 @@
 -- Building a table for a limit: settle, rounds, and how many rounds there were.
-use Prim.Native.Nat.{ℕ, zero, suc, _+_, _-_, _*_, _/_, _%_, _^_}
-use mathlib.Core.Bool.{Bool, true, false, not, _&&_, _||_}
+use Prim.Native.Nat.{ℕ, zero, suc, _+_, _-_, _^_}
+use mathlib.Core.Bool.{Bool, not, _&&_}
 use mathlib.Core.List.{List, [], _∷_, _++_, map}
 use lib.Bits.{bitOr}
 use lib.Dec.{eqb, leb, ltb}
 use lib.ListN.{length, getD, set}
 use Rattle.base.specs.Choice.{pick}
-use Rattle.base.specs.Lists.{some, keep, total, without, numbersFrom}
+use Rattle.base.specs.Lists.{keep, total, without, numbersFrom}
 use Rattle.meaning.specs.Forest.{Forest, none, step, size}
 use Rattle.meaning.specs.Sections.{Entry}
 use Rattle.meaning.specs.Covering.{covers}

@@ -1,15 +1,15 @@
 -- The hub's calls: what each answers for any bytes and numbers. The sheet is judged first, then the table (12 last), the
 -- document, numbers asked for, and room. For each answer that is an enum: the paper's number and values in each case.
-use Prim.Native.Nat.{ℕ, zero, suc}
-use mathlib.Core.Bool.{Bool, true, false, _&&_}
-use mathlib.Core.List.{List, [], _∷_, _++_, flatMap}
+use Prim.Native.Nat.{ℕ}
+use mathlib.Core.Bool.{Bool, false, _&&_}
+use mathlib.Core.List.{List, [], _++_}
 use lib.Dec.{leb, ltb}
 use lib.ListN.{length, getD, drop}
 use Rattle.base.specs.Choice.{pick}
 use Rattle.meaning.specs.Numbers.{done, noRoom, notThere, notFair}
 use Rattle.meaning.specs.Reader.{Reading, read, refused, Reader, _>>=_, _>>_, give, unless, numberOf}
-use Rattle.meaning.specs.Forest.{Forest, none, size, stepsOf}
-use Rattle.meaning.specs.Sections.{Sheet, sheet, Document, document, Entry, table}
+use Rattle.meaning.specs.Forest.{Forest, none}
+use Rattle.meaning.specs.Sections.{Sheet, sheet, document, Entry, table}
 use Rattle.meaning.specs.Satisfying.{satisfies}
 use Rattle.meaning.specs.Covering.{covers}
 use Rattle.meaning.specs.Merging.{Merge, merge}

@@ -1,6 +1,6 @@
 -- A table is fair if no entry is without members, no member is outside the sheet, each subscription is in exactly one
 -- entry, and that entry covers it.
-use Prim.Native.Nat.{ℕ, zero, suc, _/_, _%_, _^_}
+use Prim.Native.Nat.{ℕ, suc, _/_, _%_, _^_}
 use mathlib.Core.Bool.{Bool, true, false, _&&_}
 use mathlib.Core.List.{List, [], _∷_}
 use lib.Dec.{eqb, ltb}

@@ -1,7 +1,7 @@
 -- A pattern is a forest of steps; written, its steps stand in preorder, each with the number of its parent.
 -- A document is a forest too, by its nodes' parents.
 use Prim.Native.Nat.{ℕ, zero, suc, _+_}
-use mathlib.Core.Bool.{Bool, true, false, _&&_, _||_}
+use mathlib.Core.Bool.{Bool, true, false, _||_}
 use mathlib.Core.List.{List, [], _∷_, _++_}
 use lib.Dec.{eqb}
 use lib.ListN.{length, getD}

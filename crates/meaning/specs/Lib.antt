@@ -13,3 +13,5 @@ pub mod LabelBytes
 pub mod Written
 pub mod Calls
 pub mod Printing
+pub mod RoseBench
+pub mod Examples

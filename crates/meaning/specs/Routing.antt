@@ -1,6 +1,6 @@
 -- Routing: which subscriptions are delivered, and how many patterns are tried.
-use Prim.Native.Nat.{ℕ, zero, suc, _+_, _*_}
-use mathlib.Core.Bool.{Bool, true, false, _&&_, _||_}
+use Prim.Native.Nat.{ℕ, suc, _+_, _*_}
+use mathlib.Core.Bool.{Bool, _&&_}
 use mathlib.Core.List.{List, [], _∷_, map}
 use lib.Count.{ones, trailingZeros}
 use lib.ListN.{length}

@@ -1,12 +1,12 @@
 -- When a document satisfies a pattern. The unlabelled top stands above the document's root node, and has number 0.
 use Prim.Native.Nat.{ℕ, zero, suc}
-use mathlib.Core.Bool.{Bool, true, false, _&&_, _||_}
+use mathlib.Core.Bool.{Bool, true, _&&_, _||_}
 use mathlib.Core.List.{List, map}
 use lib.Dec.{eqb}
 use lib.ListN.{length, getD}
 use Rattle.base.specs.Lists.{some, numbersFrom}
 use Rattle.meaning.specs.Forest.{Axis, Forest, none, step, reaches}
-use Rattle.meaning.specs.Sections.{Node, Document}
+use Rattle.meaning.specs.Sections.{Node}
 
 -- the label is any, which is 0, or the same
 unfoldable pub anyOrSame : ℕ → ℕ → Bool

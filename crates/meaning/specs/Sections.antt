@@ -1,13 +1,13 @@
 -- Sheet, document, table: their sections, each after its count, and how each field is judged.
-use Prim.Native.Nat.{ℕ, zero, suc, _+_, _-_}
-use mathlib.Core.Bool.{Bool, true, false, not, _&&_, _||_}
-use mathlib.Core.List.{List, [], _∷_, _++_, map}
+use Prim.Native.Nat.{ℕ, zero, suc, _+_}
+use mathlib.Core.Bool.{Bool, true, false, not, _&&_}
+use mathlib.Core.List.{List, [], _∷_, _++_}
 use lib.Dec.{eqb, leb, ltb}
 use lib.ListN.{length}
 use Rattle.base.specs.Choice.{pick}
 use Rattle.base.specs.Lists.{some}
 use Rattle.meaning.specs.Numbers.{labelLength, labelTwice, countOutside, parentRule, axisUnknown, labelOutside, secondNear, longestLabel, mostLabels, mostPatterns, mostSteps, mostNodes, mostEntries}
-use Rattle.meaning.specs.Reader.{Reader, Reading, _>>=_, _>>_, give, unless, byte, bytes, number, repeat, end}
+use Rattle.meaning.specs.Reader.{Reader, _>>=_, _>>_, give, unless, byte, bytes, number, repeat, end}
 use Rattle.meaning.specs.Forest.{Forest, forest}
 use Rattle.meaning.specs.declared.Step.{Step}
 

@@ -1,5 +1,5 @@
 -- How a pattern and a table are written: the bytes that read back as they are.
-use Prim.Native.Nat.{ℕ, zero, suc, _+_, _/_, _%_}
+use Prim.Native.Nat.{ℕ, zero, suc, _/_, _%_}
 use mathlib.Core.List.{List, [], _∷_, _++_, flatMap}
 use lib.ListN.{length}
 use Rattle.meaning.specs.Forest.{Forest, size, stepsOf}

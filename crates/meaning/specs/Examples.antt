@@ -1,0 +1,202 @@
+-- The smallest examples that tell each definition from an easy misreading of it, as one list under one claim. The edits
+-- in must-fail/ make each misreading, and the claim fails.
+use Prim.Native.Nat.{ℕ, suc}
+use mathlib.Core.Path.{_≡_, refl}
+use mathlib.Core.Bool.{Bool, true, false}
+use mathlib.Core.List.{List, [], _∷_, map}
+use lib.ListN.{replicate}
+use Rattle.base.specs.Choice.{pick}
+use Rattle.base.specs.Lists.{some, every, keep, total, without, numbersFrom}
+use Rattle.meaning.specs.Reader.{go-on, _>>=_, _>>_, give, repeat, unless, byte, bytes, number, end, numberOf}
+use Rattle.meaning.specs.Forest.{axisOf, isNear, Forest, none, step, size, childrenIn, forest, parentIn, isChild, isBelowIn, isBelow, reaches}
+use Rattle.meaning.specs.Sections.{sameLabel, label, labels, upFrom, pathAfter, mayHang, isNearRoot, nearRoot, aStep, steps, pattern, sheet, Node, nodeParent, aNode, nodes, document, Entry, entry, table}
+use Rattle.meaning.specs.Satisfying.{anyOrSame, parentsOf, labelIn, fitsBelow, holdBelow, satisfies}
+use Rattle.meaning.specs.Covering.{mayLie, finds, fitsAt, lays, covers}
+use Rattle.meaning.specs.Merging.{Merge, alone, joined, branchSize, laidOn, staysBeside, nothing, offer, commonLabel, bodyOf, meet, meetAt, across, through, mergeWithin, merge}
+use Rattle.meaning.specs.Building.{Table, noEntry, entryAt, entrySteps, stepsTogether, entriesFrom, pair, coversOther, ascends, pairsOf, pairsBelow, joinAt, covering, settleAt, settleTimes, settle, saves, better, bestOf, bestPair, cut, largest, cutLargest, mergeOrCut, round, roundsFrom, build}
+use Rattle.meaning.specs.Fair.{isMember, hasMember, entriesOf, oneThatCovers, eachInOne, isPeopled, isWithin, fair}
+use Rattle.meaning.specs.Routing.{membersOf, triedFor, tried}
+use Rattle.meaning.specs.Calls.{judged, fairTable, sheetNumber, documentNumber, tableNumber}
+use Rattle.meaning.specs.Printing.{ascii}
+use Rattle.meaning.specs.RoseBench.{sheetR, slash, slashes, beside, a, b, c, star}
+
+-- ---- documents, as parent and label of each node
+
+unfoldable pub node : ℕ → ℕ → Node
+node parent label = record { parent = parent; label = label }
+
+-- a
+unfoldable pub onlyA : List Node
+onlyA = node 0 a ∷ []
+
+-- a over b
+unfoldable pub aOverB : List Node
+aOverB = node 0 a ∷ node 1 b ∷ []
+
+-- a over b over c
+unfoldable pub aOverBOverC : List Node
+aOverBOverC = node 0 a ∷ node 1 b ∷ node 2 c ∷ []
+
+unfoldable pub satisfied : List Bool
+satisfied =
+    -- //a finds the document's root
+    satisfies onlyA (slashes a none)
+    -- /a//a: far is strictly below
+    ∷ satisfies onlyA (slash a (slashes a none))
+    -- /a[/b][/*]: two child steps may use one node
+    ∷ satisfies aOverB (slash a (beside (slash b none) (slash star none)))
+    -- /a/c: near is a child
+    ∷ satisfies aOverBOverC (slash a (slash c none))
+    -- /a//c: far is any depth
+    ∷ satisfies aOverBOverC (slash a (slashes c none))
+    -- a pattern without steps is satisfied by every document
+    ∷ satisfies onlyA none
+    ∷ []
+
+unfoldable pub covered : List Bool
+covered =
+    -- /* on //a: near only on near
+    covers (slash star none) (slashes a none)
+    -- //* on /a
+    ∷ covers (slashes star none) (slash a none)
+    -- //a on /b/a: far on any step strictly below
+    ∷ covers (slashes a none) (slash b (slash a none))
+    -- /a on /*: a label only on the same
+    ∷ covers (slash a none) (slash star none)
+    -- /a[/b][/*] on /a/b: several steps may share a place
+    ∷ covers (slash a (beside (slash b none) (slash star none))) (slash a (slash b none))
+    -- /a//a on /a: far is strictly below
+    ∷ covers (slash a (slashes a none)) (slash a none)
+    ∷ []
+
+-- ---- merges
+
+unfoldable pub merges : List Merge
+merges =
+    -- /b with /a/b: all pairs below, and near not on far
+    merge (slash b none) (slash a (slash b none))
+    -- //a//a with //c//a: a far candidate inside a kept one
+    ∷ merge (slashes a (slashes a none)) (slashes c (slashes a none))
+    -- /b with [//c][//b]: kept ones are dropped
+    ∷ merge (slash b none) (beside (slashes c none) (slashes b none))
+    -- //a//b with /b//a: v' outside, w' inside
+    ∷ merge (slashes a (slashes b none)) (slash b (slashes a none))
+    -- /c[/b][//b] with //c//c/b: v' before w'
+    ∷ merge (slash c (beside (slash b none) (slashes b none))) (slashes c (slashes c (slash b none)))
+    ∷ []
+
+unfoldable pub merged : List Merge
+merged =
+    -- [/*][//b]
+    whole (beside (slash star none) (slashes b none))
+    -- //*//a
+    ∷ whole (slashes star (slashes a none))
+    -- //b
+    ∷ whole (slashes b none)
+    -- [//*//*][//a][//b]
+    ∷ whole (beside (slashes star (slashes star none)) (beside (slashes a none) (slashes b none)))
+    -- //c[/b][//b]
+    ∷ whole (slashes c (beside (slash b none) (slashes b none)))
+    ∷ []
+  where
+    whole : Forest → Merge
+    whole f = record { pattern = f; clipped = false }
+
+-- the size of a merge, and whether it is clipped
+pub record Measured : Type 0 where
+  pub steps : ℕ
+  pub clipped : Bool
+
+unfoldable pub measured : Merge → Measured
+measured m = record { steps = size (m .pattern); clipped = m .clipped }
+
+unfoldable pub sized : ℕ → Bool → Measured
+sized n mark = record { steps = n; clipped = mark }
+
+unfoldable pub sizes : List Measured
+sizes =
+    -- //a/a/b//a with /a/b/a/b: the root is not counted
+    measured (merge (slashes a (slash a (slash b (slashes a none)))) (slash a (slash b (slash a (slash b none)))))
+    -- /a/c/c/a/b with //c[/b/b][/c/a]: the size is judged after the drops
+    ∷ measured (merge (slash a (slash c (slash c (slash a (slash b none))))) (slashes c (beside (slash b (slash b none)) (slash c (slash a none)))))
+    ∷ []
+
+-- ---- numbers
+
+unfoldable pub numbers : List ℕ
+numbers =
+    -- each field is judged when its last byte is there: 65 patterns; 17 steps; a label of 61 bytes
+    sheetNumber (0 ∷ 65 ∷ [])
+    ∷ sheetNumber (0 ∷ 1 ∷ 17 ∷ [])
+    ∷ sheetNumber (1 ∷ 61 ∷ [])
+    -- parents 0, 1, 2, 1, and 0, 1, 1, 2
+    ∷ sheetNumber (0 ∷ 1 ∷ 4 ∷ 0 ∷ 0 ∷ 0 ∷ 1 ∷ 0 ∷ 0 ∷ 2 ∷ 0 ∷ 0 ∷ 1 ∷ 0 ∷ 0 ∷ [])
+    ∷ sheetNumber (0 ∷ 1 ∷ 4 ∷ 0 ∷ 0 ∷ 0 ∷ 1 ∷ 0 ∷ 0 ∷ 1 ∷ 0 ∷ 0 ∷ 2 ∷ 0 ∷ 0 ∷ [])
+    -- a second near step with parent 0, at its axis byte; an unknown axis there comes first
+    ∷ sheetNumber (0 ∷ 1 ∷ 2 ∷ 0 ∷ 0 ∷ 0 ∷ 0 ∷ 0 ∷ [])
+    ∷ sheetNumber (0 ∷ 1 ∷ 2 ∷ 0 ∷ 0 ∷ 0 ∷ 0 ∷ 2 ∷ [])
+    -- a label of the step outside the sheet's; label 0 is any
+    ∷ sheetNumber (0 ∷ 1 ∷ 1 ∷ 0 ∷ 0 ∷ 1 ∷ [])
+    -- the same label twice, judged when complete; bytes after the last section
+    ∷ sheetNumber (2 ∷ 1 ∷ 65 ∷ 1 ∷ 65 ∷ [])
+    ∷ sheetNumber (0 ∷ 0 ∷ 0 ∷ [])
+    -- a document's node count of one byte, of 0; a label that stands in the sheet; label 0 of a node
+    ∷ documentNumber (0 ∷ 0 ∷ []) (0 ∷ 0 ∷ [])
+    ∷ documentNumber (0 ∷ 0 ∷ []) (0 ∷ 0 ∷ 0 ∷ [])
+    ∷ documentNumber (1 ∷ 1 ∷ 65 ∷ 0 ∷ []) (1 ∷ 1 ∷ 65 ∷ [])
+    ∷ documentNumber (1 ∷ 1 ∷ 65 ∷ 0 ∷ []) (0 ∷ 1 ∷ 0 ∷ 0 ∷ 0 ∷ 0 ∷ [])
+    -- a table whose bytes parse, with one entry /CD for all of R: //CD/Bach is not covered
+    ∷ tableNumber sheetR (1 ∷ 7 ∷ 0 ∷ 0 ∷ 0 ∷ 0 ∷ 0 ∷ 0 ∷ 0 ∷ 1 ∷ 0 ∷ 0 ∷ 1 ∷ [])
+    -- bytes that remain come before 12
+    ∷ tableNumber sheetR (1 ∷ 7 ∷ 0 ∷ 0 ∷ 0 ∷ 0 ∷ 0 ∷ 0 ∷ 0 ∷ 1 ∷ 0 ∷ 0 ∷ 1 ∷ 0 ∷ [])
+    ∷ []
+
+-- ---- building
+
+-- /a/b, /a/c, //d: the pairs (0, 1) and (0, 2) both save 2, and the first is taken, so that 3 steps are left; the next round leaves //*,
+-- and the last cuts it
+unfoldable pub rounds : List ℕ
+rounds = map (λ limit. build limit (slash a (slash b none) ∷ slash a (slash c none) ∷ slashes 4 none ∷ []) .rounds) (4 ∷ 3 ∷ 2 ∷ 1 ∷ 0 ∷ [])
+
+-- /a/b with /a: entry 1 covers entry 0, so one entry is left, with both
+unfoldable pub settled : List ℕ
+settled = map (λ e. e .members) (settle (entriesFrom 0 (slash a (slash b none) ∷ slash a none ∷ [])))
+
+-- ---- routing
+
+-- a over b, by a table of //a with members 0 and 2, and //c with member 1: two entries, and the members of the first
+unfoldable pub tries : ℕ
+tries =
+    tried aOverB
+    (record { members = 5; pattern = slashes a none } ∷ record { members = 2; pattern = slashes c none } ∷ [])
+    (slash a none ∷ slash c none ∷ slash a (slash b none) ∷ [])
+
+pub record All : Type 0 where
+  pub satisfied : List Bool
+  pub covered : List Bool
+  pub merges : List Merge
+  pub sizes : List Measured
+  pub numbers : List ℕ
+  pub rounds : List ℕ
+  pub settled : List ℕ
+  pub tries : ℕ
+
+unfoldable pub answers : All
+answers = record { satisfied = satisfied; covered = covered; merges = merges; sizes = sizes; numbers = numbers; rounds = rounds; settled = settled; tries = tries }
+
+unfoldable pub expected : All
+expected = record {
+  satisfied = true ∷ false ∷ true ∷ false ∷ true ∷ true ∷ [];
+  covered = false ∷ true ∷ true ∷ false ∷ true ∷ false ∷ [];
+  merges = merged;
+  sizes = sized 16 false ∷ sized 12 false ∷ [];
+  numbers = 5 ∷ 5 ∷ 3 ∷ 0 ∷ 6 ∷ 9 ∷ 7 ∷ 8 ∷ 4 ∷ 2 ∷ 1 ∷ 5 ∷ 4 ∷ 8 ∷ 12 ∷ 2 ∷ [];
+  rounds = 1 ∷ 1 ∷ 2 ∷ 2 ∷ 3 ∷ [];
+  settled = 3 ∷ [];
+  tries = 4;
+}
+
+pub told-apart : answers ≡ expected
+unfolding
+    answers expected satisfied covered merges merged measured sized sizes numbers rounds settled tries node onlyA aOverB aOverBOverC sheetR slash slashes beside a b c star ascii pick some every keep total without numbersFrom go-on _>>=_ _>>_ give repeat unless byte bytes number end numberOf axisOf isNear size childrenIn forest parentIn isChild isBelowIn isBelow reaches sameLabel label labels upFrom pathAfter mayHang isNearRoot nearRoot aStep steps pattern sheet nodeParent aNode nodes document entry table anyOrSame parentsOf labelIn fitsBelow holdBelow satisfies mayLie finds fitsAt lays covers alone joined branchSize laidOn staysBeside nothing offer commonLabel bodyOf meet meetAt across through mergeWithin merge noEntry entryAt entrySteps stepsTogether entriesFrom pair coversOther ascends pairsOf pairsBelow joinAt covering settleAt settleTimes settle saves better bestOf bestPair cut largest cutLargest mergeOrCut round roundsFrom build isMember hasMember entriesOf oneThatCovers eachInOne isPeopled isWithin fair membersOf triedFor tried judged fairTable sheetNumber documentNumber tableNumber
+told-apart = refl
