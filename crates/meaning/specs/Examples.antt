@@ -1,19 +1,18 @@
 -- The smallest examples that tell each definition from an easy misreading of it, as one list under one claim. The edits
 -- in must-fail/ make each misreading, and the claim fails.
-use Prim.Native.Nat.{ℕ, suc}
+use Prim.Native.Nat.{ℕ}
 use mathlib.Core.Path.{_≡_, refl}
 use mathlib.Core.Bool.{Bool, true, false}
 use mathlib.Core.List.{List, [], _∷_, map}
-use lib.ListN.{replicate}
 use Rattle.base.specs.Choice.{pick}
 use Rattle.base.specs.Lists.{some, every, keep, total, without, numbersFrom}
 use Rattle.meaning.specs.Reader.{go-on, _>>=_, _>>_, give, repeat, unless, byte, bytes, number, end, numberOf}
 use Rattle.meaning.specs.Forest.{axisOf, isNear, Forest, none, step, size, childrenIn, forest, parentIn, isChild, isBelowIn, isBelow, reaches}
-use Rattle.meaning.specs.Sections.{sameLabel, label, labels, upFrom, pathAfter, mayHang, isNearRoot, nearRoot, aStep, steps, pattern, sheet, Node, nodeParent, aNode, nodes, document, Entry, entry, table}
+use Rattle.meaning.specs.Sections.{sameLabel, label, labels, upFrom, pathAfter, mayHang, isNearRoot, nearRoot, aStep, steps, pattern, sheet, Node, nodeParent, aNode, nodes, document, entry, table}
 use Rattle.meaning.specs.Satisfying.{anyOrSame, parentsOf, labelIn, fitsBelow, holdBelow, satisfies}
 use Rattle.meaning.specs.Covering.{mayLie, finds, fitsAt, lays, covers}
 use Rattle.meaning.specs.Merging.{Merge, alone, joined, branchSize, laidOn, staysBeside, nothing, offer, commonLabel, bodyOf, meet, meetAt, across, through, mergeWithin, merge}
-use Rattle.meaning.specs.Building.{Table, noEntry, entryAt, entrySteps, stepsTogether, entriesFrom, pair, coversOther, ascends, pairsOf, pairsBelow, joinAt, covering, settleAt, settleTimes, settle, saves, better, bestOf, bestPair, cut, largest, cutLargest, mergeOrCut, round, roundsFrom, build}
+use Rattle.meaning.specs.Building.{noEntry, entryAt, entrySteps, stepsTogether, entriesFrom, pair, coversOther, ascends, pairsOf, pairsBelow, joinAt, covering, settleAt, settleTimes, settle, saves, better, bestOf, bestPair, cut, largest, cutLargest, mergeOrCut, round, roundsFrom, build}
 use Rattle.meaning.specs.Fair.{isMember, hasMember, entriesOf, oneThatCovers, eachInOne, isPeopled, isWithin, fair}
 use Rattle.meaning.specs.Routing.{membersOf, triedFor, tried}
 use Rattle.meaning.specs.Calls.{judged, fairTable, sheetNumber, documentNumber, tableNumber}
