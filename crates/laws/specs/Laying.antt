@@ -80,16 +80,17 @@ place-below (below p) q = below (place-below p q)
 
 -- ---- laying
 
--- of a forest that is laid, the first step has found a place, and the steps after it are laid
+-- of a forest that is laid, the first step has found a place
 pub first-lies : (x : Axis) (l : ℕ) (kids later b : Forest) → lays (step x l kids later) b ≡ true → Found x (fitsAt x l (lays kids)) b
 unfolding lays
 first-lies x l kids later b h = finds-gives x (fitsAt x l (lays kids)) b (and-first (finds x (fitsAt x l (lays kids)) b) (lays later b) h)
 
+-- and the steps after it are laid
 pub others-lie : (x : Axis) (l : ℕ) (kids later b : Forest) → lays (step x l kids later) b ≡ true → lays later b ≡ true
 unfolding lays
 others-lie x l kids later b h = and-second (finds x (fitsAt x l (lays kids)) b) (lays later b) h
 
--- and so it is laid
+-- a forest is laid if its first step has a place and the steps after it are laid
 pub lays-step :
     (x y : Axis) (l m : ℕ) (kids later k b : Forest) →
     Place x b y m k → mayLie x l y m ≡ true → lays kids k ≡ true → lays later b ≡ true → lays (step x l kids later) b ≡ true
@@ -97,11 +98,12 @@ unfolding lays fitsAt
 lays-step x y l m kids later k b p f e h =
     and-both (finds x (fitsAt x l (lays kids)) b) (lays later b) (finds-of (fitsAt x l (lays kids)) p (and-both (mayLie x l y m) (lays kids k) f e)) h
 
--- a step that fits at a place may lie there, and its child steps are laid below
+-- a step that fits at a place may lie there
 pub fits-here : (x y : Axis) (l m : ℕ) (kids k : Forest) → fitsAt x l (lays kids) y m k ≡ true → mayLie x l y m ≡ true
 unfolding fitsAt
 fits-here x y l m kids k h = and-first (mayLie x l y m) (lays kids k) h
 
+-- and its child steps are laid below
 pub fits-below : (x y : Axis) (l m : ℕ) (kids k : Forest) → fitsAt x l (lays kids) y m k ≡ true → lays kids k ≡ true
 unfolding fitsAt
 fits-below x y l m kids k h = and-second (mayLie x l y m) (lays kids k) h
@@ -132,12 +134,13 @@ lays-refl (step x l kids later) =
     lays-step x x l l kids later kids (step x l kids later) here (mayLie-refl x l) (lays-refl kids)
     (lays-weaken later later (step x l kids later) (λ y z m k p. after p) (lays-refl later))
 
--- what may lie on a step that may lie on a third may lie on the third
+-- a label that fits one that fits a third fits the third
 pub any-trans : (l m n : ℕ) → anyOrSame l m ≡ true → anyOrSame m n ≡ true → anyOrSame l n ≡ true
 unfolding anyOrSame
 any-trans l m n h k =
     ⊎-elim (or-first (eqb l 0) (eqb l n)) (λ e. subst (λ (i : ℕ). (eqb i 0 || eqb i n) ≡ true) (sym (eqb-true l m e)) k) (or-cases (eqb l 0) (eqb l m) h)
 
+-- what may lie on a step that may lie on a third may lie on the third
 pub mayLie-trans : (x y z : Axis) (l m n : ℕ) → mayLie x l y m ≡ true → mayLie y m z n ≡ true → mayLie x l z n ≡ true
 unfolding mayLie isNear
 mayLie-trans near near z l m n h k = and-both (isNear z) (anyOrSame l n) (and-first (isNear z) (anyOrSame m n) k) (any-trans l m n h (and-second (isNear z) (anyOrSame m n) k))
@@ -145,7 +148,7 @@ mayLie-trans near far z l m n h k = absurd (false≢true h)
 mayLie-trans far near z l m n h k = any-trans l m n h (and-second (isNear z) (anyOrSame m n) k)
 mayLie-trans far far z l m n h k = any-trans l m n h k
 
--- where a forest is laid, the step at each of its places has a place; that of a near root step is among the roots
+-- where a forest is laid, the step at each of its places has a place
 pub follow-far : {y : Axis} {m : ℕ} {k b : Forest} (c : Forest) → Place far b y m k → lays b c ≡ true → Found far (fitsAt y m (lays k)) c
 follow-far {y} {m} {k} c (here {later}) h =
     let r = first-lies y m k later c h in
@@ -156,6 +159,7 @@ follow-far c (below {z} {n} {kids} {later} p) h =
     let s = follow-far (r .kids) p (fits-below z (r .axis) n (r .label) kids (r .kids) (r .passed)) in
     record { axis = s .axis; label = s .label; kids = s .kids; place = place-below (r .place) (s .place); passed = s .passed }
 
+-- that of a near root step is among the roots
 pub follow-near : {m : ℕ} {k b : Forest} (c : Forest) → Place near b near m k → lays b c ≡ true → Found near (fitsAt near m (lays k)) c
 follow-near {m} {k} c (here {later}) h = first-lies near m k later c h
 follow-near c (after {z} {n} {kids} {later} p) h = follow-near c p (others-lie z n kids later c h)
@@ -182,11 +186,12 @@ lays-trans (step x l kids later) b c h e =
     (lays-trans kids (r .kids) (s .kids) (fits-below x (r .axis) l (r .label) kids (r .kids) (r .passed)) (fits-below (r .axis) (s .axis) (r .label) (s .label) (r .kids) (s .kids) (s .passed)))
     (lays-trans later b c (others-lie x l kids later b h) e)
 
--- every pattern covers itself, and covers of covers are covers
+-- every pattern covers itself
 pub covers-refl : (f : Forest) → covers f f ≡ true
 unfolding covers
 covers-refl f = lays-refl f
 
+-- covers of covers are covers
 pub covers-trans : (a b c : Forest) → covers a b ≡ true → covers b c ≡ true → covers a c ≡ true
 unfolding covers
 covers-trans a b c h e = lays-trans a b c h e

@@ -1,6 +1,10 @@
 -- The theorems about the definitions of `meaning`.
 pub mod Rising
+pub mod Bridge
+pub mod Below
+pub mod Places
 pub mod Laying
+pub mod Layings
 pub mod Cutting
 pub mod Walking
 pub mod Choosing
