@@ -2,4 +2,5 @@ pub mod Choice
 pub mod Bools
 pub mod Lists
 pub mod ListLaws
+pub mod Replacing
 pub mod Loops

@@ -1,11 +1,16 @@
 -- The theorems about the definitions of `meaning`.
+
+-- numbered steps and nodes, and the forests that they are
 pub mod Rising
 pub mod Bridge
 pub mod Below
 pub mod Places
+-- laying, and satisfying as laying
 pub mod Laying
 pub mod Layings
+pub mod Documents
 pub mod Cutting
+-- merging
 pub mod Walking
 pub mod Choosing
 pub mod Offering
@@ -14,4 +19,21 @@ pub mod Merging
 pub mod MergeSize
 pub mod MergeLabels
 pub mod MergeNears
+-- building and fairness
+pub mod Members
+pub mod Unions
+pub mod Settling
+pub mod Chosen
+pub mod Rounds
+pub mod Standing
+pub mod Fairness
+pub mod Tables
+-- what was read, and routes
+pub mod Readers
+pub mod Preorder
+pub mod Sound
+pub mod Judged
+pub mod Routes
+pub mod Sheds
+-- the rose bench examples
 pub mod Cases
