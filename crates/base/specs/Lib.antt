@@ -1,5 +1,6 @@
 pub mod Choice
 pub mod Bools
+pub mod Apart
 pub mod Lists
 pub mod ListLaws
 pub mod Replacing

@@ -55,9 +55,11 @@ lies-near near l m = refl
 lies-near far l m = refl
 
 module _ (ns : List Node) (rises : Rising (parentsOf ns)) where
+  -- the steps rise as the nodes do
   rising : Rising (stepParents (map nearStep ns))
   rising = subst Rising (sym (parents-near ns)) rises
 
+  -- there are as many
   long : length (map nearStep ns) ≡ length ns
   long = length-map ns nearStep
 
@@ -70,9 +72,11 @@ module _ (ns : List Node) (rises : Rising (parentsOf ns)) where
 
   -- some node that may be looked at fits a step exactly if the step finds a place
   module _ (x : Axis) (l : ℕ) (kids : Forest) (same : (u : ℕ) → u ≤ length ns → holdBelow ns kids u ≡ lays kids (childrenOf (map nearStep ns) u)) (t : ℕ) (low : t ≤ length ns) where
+    -- the node fits the step
     fits : ℕ → Bool
     fits u = fitsBelow ns t x l (holdBelow ns kids) u
 
+    -- a node that fits is a place
     fits-finds : some fits (numbersFrom 1 (length ns)) ≡ true → finds x (fitsAt x l (lays kids)) (childrenOf (map nearStep ns) t) ≡ true
     unfolding fits
     fits-finds h =
@@ -84,6 +88,7 @@ module _ (ns : List Node) (rises : Rising (parentsOf ns)) where
         spot-found (map nearStep ns) rising (fitsAt x l (lays kids)) x t
         (record { number = r .0; there = (b .0, omega (arith, long)); within = and-first inside passed both; passed = and-second inside passed both })
 
+    -- a place is a node that fits
     finds-fits : finds x (fitsAt x l (lays kids)) (childrenOf (map nearStep ns) t) ≡ true → some fits (numbersFrom 1 (length ns)) ≡ true
     unfolding fits
     finds-fits h =

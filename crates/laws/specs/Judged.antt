@@ -47,15 +47,18 @@ node-read known k bs left d h =
 abbrev Low : ℕ → List Node → Type 0
 Low k ds = (i : ℕ) → i < length (parentsOf ds) → getD (parentsOf ds) i 0 < k + i
 
+-- one node more before them
 low-first : (k : ℕ) (d : Node) (ds : List Node) → d .parent < k → Low (suc k) ds → Low k (d ∷ ds)
 unfolding parentsOf
 low-first k d ds h later zero l = omega arith
 low-first k d ds h later (suc i) l = omega (arith, later i (omega arith))
 
+-- of none
 low-none : (k : ℕ) → Low k []
 unfolding parentsOf
 low-none k i l = absurd (omega arith)
 
+-- so it is of the nodes that were read
 nodes-low : (known n k : ℕ) (bs left : List ℕ) (ds : List Node) → 1 ≤ k → nodes known n k bs ≡ read ds left → Low k ds
 unfolding nodes
 nodes-low known zero k bs left ds a h = subst (Low k) (give-read [] bs h .0) (low-none k)

@@ -28,11 +28,16 @@ pub mod Rounds
 pub mod Standing
 pub mod Fairness
 pub mod Tables
--- what was read, and routes
+-- what was read, and what was written
 pub mod Readers
 pub mod Preorder
 pub mod Sound
 pub mod Judged
+pub mod WrittenSound
+pub mod SoundPattern
+pub mod ReadNumbers
+pub mod RoundTrip
+-- routes
 pub mod Routes
 pub mod Sheds
 -- the rose bench examples

@@ -2,7 +2,7 @@
 use Prim.Native.Nat.{ℕ, zero, suc, _+_, _-_, _≤_, _<_}
 use mathlib.Core.Path.{_≡_, refl, sym, ap, _∙_}
 use mathlib.Core.Logic.{_⊎_, inl, inr, ⊎-elim}
-use mathlib.Core.Bool.{Bool, true, false, _||_, false≢true}
+use mathlib.Core.Bool.{Bool, true, false, _||_, false≢true, or-assoc}
 use mathlib.Core.List.{List, _∷_}
 use native.Mathlib.Omega.{arith}
 use native.Mathlib.Nat.{eq-or-lt-of-le}
@@ -68,10 +68,6 @@ unfoldable pub hits : List Step → (Axis → ℕ → Forest → Bool) → Axis 
 hits ss passes near u = passesAt ss passes u
 hits ss passes far u = passesAt ss passes u || finds far passes (childrenOf ss u)
 
-or-assoc : (a b c : Bool) → (a || (b || c)) ≡ ((a || b) || c)
-or-assoc true b c = refl
-or-assoc false b c = refl
-
 -- a step that may be looked at below t, and passes
 pub record Spot (ss : List Step) (passes : Axis → ℕ → Forest → Bool) (x : Axis) (t : ℕ) : Type 0 where
   pub number : ℕ
@@ -93,13 +89,14 @@ module _ (ss : List Step) (passes : Axis → ℕ → Forest → Bool) where
   finds-here near t k h e = ap (finds near passes) (here-child ss t k h e)
   finds-here far t k h e =
       ap (finds far passes) (here-child ss t k h e)
-      ∙ or-assoc (passesAt ss passes (suc k)) (finds far passes (childrenOf ss (suc k))) (finds far passes (childrenFrom ss t (suc k)))
+      ∙ sym (or-assoc (passesAt ss passes (suc k)) (finds far passes (childrenOf ss (suc k))) (finds far passes (childrenFrom ss t (suc k))))
 
   module _ (x : Axis) where
     -- found below t: a child of t after the first k is hit
     abbrev Hit : ℕ → ℕ → Type 0
     Hit t k = (u : ℕ) × (k < u) × (u ≤ length ss) × (isChild (stepParents ss) t u ≡ true) × (hits ss passes x u ≡ true)
 
+    -- what is found there is such a child
     child-hit : (m k t : ℕ) → k + m ≡ length ss → finds x passes (childrenFrom ss t k) ≡ true → Hit t k
     child-hit zero k t l h = absurd (false≢true (sym (finds-end x t k (omega arith)) ∙ h))
     child-hit (suc m) k t l h = go (isChild (stepParents ss) t (suc k)) refl (child-hit m (suc k) t (omega arith))
@@ -126,6 +123,7 @@ module _ (ss : List Step) (passes : Axis → ℕ → Forest → Bool) where
         go false e (inr q) later = ap (finds x passes) (here-other ss t k (omega arith) e) ∙ later q
 
 module _ (ss : List Step) (rises : Rising (stepParents ss)) (passes : Axis → ℕ → Forest → Bool) where
+  -- one parent a step
   parents-length : length (stepParents ss) ≡ length ss
   unfolding stepParents
   parents-length = length-map ss (λ (s : Step). s .parent)
@@ -151,6 +149,7 @@ module _ (ss : List Step) (rises : Rising (stepParents ss)) (passes : Axis → �
       (λ e. spot-higher t u c (deeper e))
       (or-cases (passesAt ss passes u) _ h)
 
+  -- what a far step finds below t: going down, fewer steps are left
   far-gives : (m t : ℕ) → length ss ≤ t + m → t ≤ length ss → finds far passes (childrenOf ss t) ≡ true → Spot ss passes far t
   unfolding childrenOf
   far-gives zero t l a h = absurd (false≢true (sym (finds-end ss passes far t t (omega arith)) ∙ h))

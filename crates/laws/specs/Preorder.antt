@@ -29,11 +29,13 @@ Falling b (p ∷ path) = (p < b) × Falling p path
 
 -- ---- paths
 
+-- every number of such a path is below b
 pub falling-below : (b : ℕ) (path : List ℕ) (q : ℕ) → Falling b path → List·Memᴰ q path → q < b
 falling-below b [] q f m = absurd (List·Memᴰ·not-nil m)
 falling-below b (p ∷ path) q f m =
     ⊎-elim (λ e. omega arith) (λ t. omega (arith, falling-below p path q (f .1) t)) (List·Memᴰ·cases-cons m)
 
+-- and below what is higher
 falling-wider : (a b : ℕ) (path : List ℕ) → a ≤ b → Falling a path → Falling b path
 falling-wider a b [] h f = tt
 falling-wider a b (p ∷ path) h f = (omega arith, f .1)
@@ -91,6 +93,7 @@ none-hangs q k path (s ∷ ss) h l out =
     ∙ none-hangs q (suc k) (k ∷ upFrom (s .parent) path) ss (h .2) (omega arith)
     (λ m. ⊎-elim (λ e. omega arith) (λ t. out (up-member q (s .parent) path t)) (List·Memᴰ·cases-cons m))
 
+-- the steps from number k on, spelled so, the first of them numbered j
 spelled : List ℕ → ℕ → ℕ → List Step → List Step
 spelled [] j k ss = []
 spelled (p ∷ path) j k ss = stepsFrom p j (childrenIn p k ss) ++ spelled path (j + size (childrenIn p k ss)) k ss

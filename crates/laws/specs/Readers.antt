@@ -24,6 +24,7 @@ module _ {A B : Type 0} where
     pub before : first ≡ read value middle
     pub after : next value middle ≡ read b left
 
+  -- both readings went well where reading on did
   pub both-read : (first : Reading A) (next : A → Reader B) (b : B) (left : List ℕ) → go-on first next ≡ read b left → Both first next b left
   unfolding go-on
   both-read (read a mid) next b left h = record { value = a; middle = mid; before = refl; after = h }
@@ -34,6 +35,7 @@ module _ {A B : Type 0} where
   unfolding _>>=_
   bind-read r next s b left h = both-read (r s) next b left h
 
+  -- where the first went well reading goes on from there
   pub read-bind : (r : Reader A) (next : A → Reader B) (s : List ℕ) (a : A) (middle : List ℕ) → r s ≡ read a middle → _>>=_ r next s ≡ next a middle
   unfolding _>>=_ go-on
   read-bind r next s a middle h = ap (λ m. go-on m next) h
@@ -58,6 +60,7 @@ module _ {B : Type 0} where
     pub bytes : s ≡ first ∷ others
     pub after : next first others ≡ read b left
 
+  -- so it was where reading on from a byte went well
   pub byte-read : (next : ℕ → Reader B) (s : List ℕ) {b : B} {left : List ℕ} → _>>=_ byte next s ≡ read b left → Began next s b left
   unfolding _>>=_ byte go-on
   byte-read next [] h = absurd (refused-not-read h)

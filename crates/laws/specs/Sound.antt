@@ -65,6 +65,7 @@ module _ (known : ℕ) where
       subst (λ (r : List Step). SoundSteps known before r × (length r ≡ suc n) × (bs ≡ flatMap stepBytes r ++ left)) (made .0)
       ((first .0, later .0), ap suc (later .1), stood)
 
+  -- sound steps are read from their bytes
   pub read-steps : (before ss : List Step) (left : List ℕ) → SoundSteps known before ss → steps known (length ss) before (flatMap stepBytes ss ++ left) ≡ read ss left
   unfolding steps flatMap give
   read-steps before [] left h = refl
