@@ -29,6 +29,7 @@ pub mod Standing
 pub mod Fairness
 pub mod Tables
 -- what was read, and what was written
+pub mod Labels
 pub mod Readers
 pub mod Preorder
 pub mod Sound
@@ -37,6 +38,8 @@ pub mod WrittenSound
 pub mod SoundPattern
 pub mod ReadNumbers
 pub mod RoundTrip
+-- what was built passes the check
+pub mod Passing
 -- routes
 pub mod Routes
 pub mod Sheds
