@@ -29,8 +29,8 @@ pub mod Standing
 pub mod Fairness
 pub mod Tables
 -- what was read, and what was written
-pub mod Labels
 pub mod Readers
+pub mod Labels
 pub mod Preorder
 pub mod Sound
 pub mod Judged
