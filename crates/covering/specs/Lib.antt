@@ -1,0 +1,7 @@
+pub mod Preorder
+pub mod Blocks
+pub mod Places
+pub mod Tests
+pub mod Questions
+pub mod Notes
+pub mod Turns

@@ -1,0 +1,39 @@
+-- What the functions ask of numbered steps, and the notes of what was answered.
+use Prim.Native.Nat.{ℕ, suc}
+use mathlib.Core.Bool.{Bool, _&&_}
+use mathlib.Core.List.{List}
+use lib.ListN.{drop}
+use Rattle.meaning.specs.Forest.{Axis, axisOf, Forest, childrenIn}
+use Rattle.meaning.specs.Satisfying.{anyOrSame}
+use Rattle.meaning.specs.Covering.{stepAt, mayLie, finds, fitsAt, lays}
+use Rattle.meaning.specs.declared.Step.{Step}
+use Rattle.covering.specs.Places.{inReach}
+
+-- the child steps of step v, or of the root, which is 0
+unfoldable pub childrenOf : List Step → ℕ → Forest
+childrenOf ss v = childrenIn v (suc v) (drop v ss)
+
+-- all children of step v of A find a place below step w of B
+unfoldable pub childrenLie : List Step → ℕ → List Step → ℕ → Bool
+childrenLie a v b w = lays (childrenOf a v) (childrenOf b w)
+
+-- a place of B fits step s of A, which is numbered k
+unfoldable pub fitsStep : List Step → ℕ → Step → Axis → ℕ → Forest → Bool
+fitsStep a k s = fitsAt (axisOf (s .axis)) (s .label) (lays (childrenOf a k))
+
+-- some place below step w of B fits step k of A
+unfoldable pub someFits : List Step → ℕ → List Step → ℕ → Bool
+someFits a k b w =
+    let s = stepAt a k in
+    finds (axisOf (s .axis)) (fitsStep a k s) (childrenOf b w)
+
+-- step s may lie on step t, which is below step w
+unfoldable pub mayLieBelow : Step → ℕ → Step → Bool
+mayLieBelow s w t =
+    inReach (axisOf (s .axis)) w (t .parent) && mayLie (axisOf (s .axis)) (s .label) (axisOf (t .axis)) (t .label)
+
+-- step v of A can be laid at step w of B: label and children, axes aside
+unfoldable pub liesAt : List Step → ℕ → List Step → ℕ → Bool
+liesAt a v b w =
+    let lie = childrenLie a v b w in
+    anyOrSame (stepAt a v .label) (stepAt b w .label) && lie

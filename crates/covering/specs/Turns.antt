@@ -1,0 +1,170 @@
+-- One law for each way through the two loops: what is left of the steps from here on answers what all of them answer.
+use Prim.Native.Nat.{ℕ, zero, suc, _+_, _-_, _≤_, _<_}
+use mathlib.Core.Path.{_≡_, refl, sym, _∙_, ap}
+use mathlib.Core.Bool.{Bool, true, false, _&&_, _||_}
+use mathlib.Core.List.{List, [], _∷_}
+use native.Mathlib.Omega.{arith}
+use native.Mathlib.Numerals.{add-one}
+use lib.ListN.{length, getD, drop, drop-of-length-le}
+use lib.Seq.{drop-cons, getD-take, length-take-le}
+use borrow.Author.Tests.{eq-eqb, ne-eqb, lt-ltb, le-ltb}
+use Rattle.base.specs.Choice.{pick}
+use Rattle.meaning.specs.Forest.{axisOf, none, step, childrenIn}
+use Rattle.meaning.specs.Satisfying.{anyOrSame}
+use Rattle.meaning.specs.Covering.{stepAt, mayLie, finds, fitsAt, lays}
+use Rattle.meaning.specs.declared.Step.{Step}
+use Rattle.shapes.specs.Shapes.{stepsIn, patternOf, SoundPattern}
+use Rattle.shapes.specs.declared.Pattern.{Pattern}
+use Rattle.covering.specs.Blocks.{block-of}
+use Rattle.covering.specs.Places.{inReach, placeFrom, tried, place-found}
+use Rattle.covering.specs.Questions.{childrenOf, childrenLie, fitsStep, someFits, mayLieBelow, liesAt}
+
+-- the step at place k of a pattern's array, counted from 0
+unfoldable pub stepIn : Pattern → ℕ → Step
+stepIn p k = getD (p .steps) k (record { parent = 0; axis = 0; label = 0 })
+
+module _ (p : Pattern) (sound : SoundPattern p) where
+  -- as many steps are there as are counted
+  pub length-steps : length (stepsIn p) ≡ p .count
+  unfolding stepsIn
+  length-steps = length-take-le (p .count) (p .steps) (omega (arith, sound .few, sound .full))
+
+  -- step k + 1 stands at place k
+  pub step-at : (k : ℕ) → k < p .count → stepAt (stepsIn p) (suc k) ≡ stepIn p k
+  unfolding stepsIn stepAt stepIn
+  step-at k h = getD-take (p .count) (p .steps) k (record { parent = 0; axis = 0; label = 0 }) h
+
+  -- step k stands at place k - 1
+  pub step-number : (k : ℕ) → 1 ≤ k → k ≤ p .count → stepIn p (k - 1) ≡ stepAt (stepsIn p) k
+  step-number zero l h = absurd (omega arith)
+  step-number (suc k) l h = ap (stepIn p) (omega arith) ∙ sym (step-at k h)
+
+  -- the steps from a place on
+  pub steps-from : (k : ℕ) → k < p .count → drop k (stepsIn p) ≡ stepIn p k ∷ drop (suc k) (stepsIn p)
+  unfolding stepsIn stepIn stepAt
+  steps-from k h =
+      drop-cons (stepsIn p) k (record { parent = 0; axis = 0; label = 0 }) (rw length-steps h)
+      ∙ ap (λ (s : Step). s ∷ drop (suc k) (stepsIn p)) (step-at k h)
+
+  -- past the last there are none
+  pub steps-end : (k : ℕ) → p .count ≤ k → drop k (stepsIn p) ≡ []
+  steps-end k h = drop-of-length-le (stepsIn p) {i = k} (rw length-steps h)
+
+-- all children of step v among the steps from place k on find a place below step w
+unfoldable pub restLie : List Step → ℕ → ℕ → List Step → ℕ → Bool
+restLie a v k b w = lays (childrenIn v (suc k) (drop k a)) (childrenOf b w)
+
+module _ (p : Pattern) (sound : SoundPattern p) (v k : ℕ) (b : List Step) (w : ℕ) (whole : Bool) where
+  -- at a child of v
+  rest-child : k < p .count → stepIn p k .parent ≡ v
+      → restLie (stepsIn p) v k b w ≡ (someFits (stepsIn p) (suc k) b w && restLie (stepsIn p) v (suc k) b w)
+  unfolding restLie childrenIn pick lays someFits childrenOf fitsStep
+  rest-child h e = rw (steps-from p sound k h, eq-eqb (stepIn p k .parent) v e, step-at p sound k h)
+
+  -- at another step
+  rest-other : k < p .count → (stepIn p k .parent ≡ v → ⊥) → restLie (stepsIn p) v k b w ≡ restLie (stepsIn p) v (suc k) b w
+  unfolding restLie childrenIn pick
+  rest-other h e = rw (steps-from p sound k h, ne-eqb (stepIn p k .parent) v e)
+
+  -- a child finds a place
+  pub child-lies : (r : Bool) → k < p .count → stepIn p k .parent ≡ v → r ≡ someFits (stepsIn p) (k + 1) b w → r ≡ true
+      → restLie (stepsIn p) v k b w ≡ whole → restLie (stepsIn p) v (k + 1) b w ≡ whole
+  child-lies r h e q t i =
+      let found : someFits (stepsIn p) (suc k) b w ≡ true = sym (rw (add-one k) at q) ∙ t in
+      rw (add-one k) (sym (rest-child h e ∙ rw found) ∙ i)
+
+  -- a child finds none
+  pub child-doesn't : (r : Bool) → k < p .count → stepIn p k .parent ≡ v → r ≡ someFits (stepsIn p) (k + 1) b w → r ≡ false
+      → restLie (stepsIn p) v k b w ≡ whole → false ≡ whole
+  child-doesn't r h e q t i =
+      let lost : someFits (stepsIn p) (suc k) b w ≡ false = sym (rw (add-one k) at q) ∙ t in
+      sym (rest-child h e ∙ rw lost) ∙ i
+
+  -- no child of v
+  pub no-child : k < p .count → (stepIn p k .parent ≡ v → ⊥) → restLie (stepsIn p) v k b w ≡ whole → restLie (stepsIn p) v (k + 1) b w ≡ whole
+  no-child h e i = rw (add-one k) (sym (rest-other h e) ∙ i)
+
+  -- none is left
+  pub all-lay : p .count ≤ k → restLie (stepsIn p) v k b w ≡ whole → true ≡ whole
+  unfolding restLie childrenIn lays
+  all-lay h i = sym (rw (steps-end p sound k h)) ∙ i
+
+-- some place from place u on, below step w, fits step s, which is number k of A
+unfoldable pub restFits : List Step → ℕ → Step → List Step → ℕ → ℕ → Bool
+restFits a k s b w u = placeFrom (axisOf (s .axis)) (fitsStep a k s) w (suc u) (drop u b)
+
+-- three tests, either way bracketed
+and-and : (a b c : Bool) → (a && (b && c)) ≡ ((a && b) && c)
+and-and true b c = refl
+and-and false b c = refl
+
+-- the search starts right after w
+pub search-starts : (p : Pattern) → SoundPattern p → (a : List Step) (k : ℕ) (s : Step) (w : ℕ) → w ≤ p .count → s ≡ stepAt a k
+    → restFits a k s (stepsIn p) w w ≡ someFits a k (stepsIn p) w
+unfolding restFits someFits childrenOf
+search-starts p sound a k s w h e =
+    rw e
+    (place-found (fitsStep a k (stepAt a k)) w (axisOf (stepAt a k .axis)) (drop w (stepsIn p))
+    (block-of w (patternOf p) (stepsIn p) (sound .written) (rw (length-steps p sound) h)))
+
+module _ (p : Pattern) (sound : SoundPattern p) (a : List Step) (k : ℕ) (s : Step) (w u : ℕ) (whole : Bool) where
+  -- at a step of w's block
+  rest-place : u < p .count → w ≤ stepIn p u .parent → restFits a k s (stepsIn p) w u
+      ≡ ((mayLieBelow s w (stepIn p u) && childrenLie a k (stepsIn p) (suc u)) || restFits a k s (stepsIn p) w (suc u))
+  unfolding restFits placeFrom pick tried mayLieBelow childrenLie fitsStep fitsAt childrenOf
+  rest-place h l =
+      rw (steps-from p sound u h, le-ltb (stepIn p u .parent) w l)
+      (ap (λ (z : Bool). z || restFits a k s (stepsIn p) w (suc u))
+      (and-and (inReach (axisOf (s .axis)) w (stepIn p u .parent))
+      (mayLie (axisOf (s .axis)) (s .label) (axisOf (stepIn p u .axis)) (stepIn p u .label))
+      (childrenLie a k (stepsIn p) (suc u))))
+
+  -- the block below w ends
+  pub block-ends : u < p .count → stepIn p u .parent < w → restFits a k s (stepsIn p) w u ≡ whole → false ≡ whole
+  unfolding restFits placeFrom pick
+  block-ends h l i = sym (rw (steps-from p sound u h, lt-ltb (stepIn p u .parent) w l)) ∙ i
+
+  -- a place fits
+  pub place-fits : (m r : Bool) → u < p .count → w ≤ stepIn p u .parent → m ≡ mayLieBelow s w (stepIn p u) → m ≡ true
+      → r ≡ childrenLie a k (stepsIn p) (u + 1) → r ≡ true → restFits a k s (stepsIn p) w u ≡ whole → true ≡ whole
+  place-fits m r h l f d q t i =
+      let may : mayLieBelow s w (stepIn p u) ≡ true = sym f ∙ d in
+      let lie : childrenLie a k (stepsIn p) (suc u) ≡ true = sym (rw (add-one u) at q) ∙ t in
+      sym (rest-place h l ∙ rw (may, lie)) ∙ i
+
+  -- the step may lie there, but not its children
+  pub children-don't : (m r : Bool) → u < p .count → w ≤ stepIn p u .parent → m ≡ mayLieBelow s w (stepIn p u) → m ≡ true
+      → r ≡ childrenLie a k (stepsIn p) (u + 1) → r ≡ false → restFits a k s (stepsIn p) w u ≡ whole
+      → restFits a k s (stepsIn p) w (u + 1) ≡ whole
+  children-don't m r h l f d q t i =
+      let may : mayLieBelow s w (stepIn p u) ≡ true = sym f ∙ d in
+      let lie : childrenLie a k (stepsIn p) (suc u) ≡ false = sym (rw (add-one u) at q) ∙ t in
+      rw (add-one u) (sym (rest-place h l ∙ rw (may, lie)) ∙ i)
+
+  -- the step may not lie there
+  pub step-doesn't : (m : Bool) → u < p .count → w ≤ stepIn p u .parent → m ≡ mayLieBelow s w (stepIn p u) → m ≡ false
+      → restFits a k s (stepsIn p) w u ≡ whole → restFits a k s (stepsIn p) w (u + 1) ≡ whole
+  step-doesn't m h l f d i =
+      let may : mayLieBelow s w (stepIn p u) ≡ false = sym f ∙ d in
+      rw (add-one u) (sym (rest-place h l ∙ rw may) ∙ i)
+
+  -- the steps end
+  pub steps-done : p .count ≤ u → restFits a k s (stepsIn p) w u ≡ whole → false ≡ whole
+  unfolding restFits placeFrom
+  steps-done h i = sym (rw (steps-end p sound u h)) ∙ i
+
+-- a step can be laid at another if the label fits and its children lie, and not otherwise
+module _ (a b : List Step) (v w : ℕ) (s t : Step) (m : Bool) (hs : s ≡ stepAt a v) (ht : t ≡ stepAt b w) (hm : m ≡ anyOrSame (s .label) (t .label)) where
+  -- the label fits: the children decide
+  pub label-fits : (r : Bool) → m ≡ true → r ≡ childrenLie a v b w → r ≡ liesAt a v b w
+  unfolding liesAt
+  label-fits r e q =
+      let fits : anyOrSame (stepAt a v .label) (stepAt b w .label) ≡ true = sym (rw (hs, ht) at hm) ∙ e in
+      q ∙ sym (rw fits)
+
+  -- it doesn't
+  pub label-doesn't : m ≡ false → false ≡ liesAt a v b w
+  unfolding liesAt
+  label-doesn't e =
+      let fails : anyOrSame (stepAt a v .label) (stepAt b w .label) ≡ false = sym (rw (hs, ht) at hm) ∙ e in
+      sym (rw fails)

@@ -1,0 +1,10 @@
+pub mod Notes
+pub mod Giving
+pub mod Going
+pub mod Steps
+pub mod Below
+pub mod Filled
+pub mod Filling
+pub mod Nodes
+pub mod Top
+pub mod Document

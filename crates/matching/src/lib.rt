@@ -1,0 +1,176 @@
+// Whether a document satisfies a pattern, by a table of notes: for each step and node, whether the step holds below the
+// node. The nodes go from the last to the first, and each gives to its parent.
+use meaning::Step;
+use shapes::Pattern;
+ghost use Prim.Native.Nat.{_+_, _*_, _<_, _≤_, _^_};
+ghost use mathlib.Core.Path.{_≡_};
+ghost use mathlib.Core.Bool.{true};
+ghost use lib.Dec.{eqb};
+ghost use lib.ListN.{length, getD, set};
+ghost use Rattle.base.specs.Choice.{pick};
+ghost use Rattle.meaning.specs.Satisfying.{parentsOf, satisfies};
+ghost use Rattle.shapes.specs.Shapes.{stepsIn, patternOf, nodesAt, SoundPattern};
+ghost use Rattle.laws.specs.Rising.{Rising};
+ghost use Rattle.matching.specs.Notes.{Whole, noted, HasCell, NotedToo};
+ghost use Rattle.matching.specs.Giving.{fits, gives, kidsHold, MayWeigh, Weighed};
+ghost use Rattle.matching.specs.Going.{Gave};
+ghost use Rattle.matching.specs.Filled.{Filled};
+
+// Is it noted that step k holds below node t?
+fn holds(cells: &[u8; 16401], t: usize, k: usize) -> bool
+    requires { ⌜ HasCell (now cells) t k ⌝ }
+    ensures { λ r. ⌜ r ≡ noted (now (cells .entry)) t k ⌝ }
+{
+    cells[16 * t + k] == 1
+}
+
+// Notes, where it is so, that step k holds below node t.
+fn note(cells: &mut [u8; 16401], t: usize, k: usize, so: bool)
+    requires { ⌜ HasCell (now cells) t k ⌝ }
+    ensures { λ r. ⌜ NotedToo (now (cells .entry)) (now (cells .exit)) t k so ⌝ }
+{
+    if so {
+        cells[16 * t + k] = 1;
+    }
+}
+
+// Does a node with this label fit step s, whose child steps hold below the node or not?
+fn fits(s: Step, label: u8, kids_hold: bool) -> bool
+    ensures { λ r. ⌜ r ≡ fits s label «kids_hold» ⌝ }
+{
+    if !kids_hold {
+        return false;
+    }
+    s.label == 0 || s.label == label
+}
+
+// Does a node with this label give step s to its parent? Step s holds below the node or not.
+fn gives(s: Step, label: u8, kids_hold: bool, below: bool) -> bool
+    ensures { λ r. ⌜ r ≡ gives s label «kids_hold» below ⌝ }
+{
+    if s.axis == 0 {
+        return fits(s, label, kids_hold);
+    }
+    if below {
+        return true;
+    }
+    fits(s, label, kids_hold)
+}
+
+// A step that lacks a child step that holds: noted where that is so.
+fn lack(lacks: &mut [u8; 17], q: usize, holds: bool)
+    requires { ⌜ (length (now lacks) ≡ 17) × (q ≤ 16) ⌝ }
+    ensures { λ r. ⌜ now (lacks .exit) ≡ pick holds (now (lacks .entry)) (set (now (lacks .entry)) q 1) ⌝ }
+{
+    if !holds {
+        lacks[q] = 1;
+    }
+}
+
+// Asks step s, numbered k, at node u with this label, whose parent is node up.
+fn weigh(
+    cells: &mut [u8; 16401],
+    lacks: &mut [u8; 17],
+    s: Step,
+    k: usize,
+    u: usize,
+    up: usize,
+    label: u8,
+)
+    requires { ⌜ MayWeigh (now cells) (now lacks) s k u up ⌝ }
+    ensures { λ r. ⌜ Weighed (now (cells .entry)) (now (lacks .entry)) (now (cells .exit)) (now (lacks .exit)) s k u up label ⌝ }
+{
+    let below = holds(cells, u, k);
+    let kids_hold = lacks[k] == 0;
+    lack(lacks, s.parent as usize, below);
+    note(cells, up, k, gives(s, label, kids_hold, below));
+}
+
+// The turn of node u with this label, whose parent is node up: the steps go from the last to the first.
+fn give(cells: &mut [u8; 16401], p: Pattern, u: usize, up: usize, label: u8)
+    requires { ⌜ SoundPattern p × Whole (now cells) × (u ≤ 1024) × (up ≤ 1024) ⌝ }
+    ensures { λ r. ⌜ Gave (now (cells .entry)) (now (cells .exit)) (stepsIn p) u up label ⌝ }
+{
+    let mut lacks: [u8; 17] = [0; 17];
+    let mut k = p.count;
+    while k > 0 {
+        let s = p.steps[k - 1];
+        weigh(cells, &mut lacks, s, k, u, up, label);
+        k -= 1;
+    }
+}
+
+// The number of two bytes at a place, the low byte first.
+fn two_bytes(d: &[u8], a: usize) -> usize
+    requires { ⌜ a + 1 < length (now d) ⌝ }
+    ensures { λ r. ⌜ r ≡ getD (now (d .entry)) a 0 + 256 * getD (now (d .entry)) (a + 1) 0 ⌝ }
+{
+    d[a] as usize + 256 * (d[a + 1] as usize)
+}
+
+// Fills the notes of a document of n nodes, from the last to the first.
+fn fill(cells: &mut [u8; 16401], d: &[u8], at: usize, n: usize, p: Pattern)
+    requires { ⌜ SoundPattern p × (n ≤ 1024) × (at + 3 * n ≤ length (now d)) × Rising (parentsOf (nodesAt (now d) at n)) × Filled (nodesAt (now d) at n) (stepsIn p) n (now cells) ⌝ }
+    ensures { λ r. ⌜ Filled (nodesAt (now (d .entry)) at n) (stepsIn p) 0 (now (cells .exit)) ⌝ }
+{
+    let mut u = n;
+    while u > 0 {
+        let a = at + 3 * (u - 1);
+        give(cells, p, u, two_bytes(d, a), d[a + 2]);
+        u -= 1;
+    }
+}
+
+// Does step s, numbered k, hold below the top, if it is a root step?
+fn at_top(cells: &[u8; 16401], s: Step, k: usize) -> bool
+    requires { ⌜ HasCell (now cells) 0 k ⌝ }
+    ensures { λ r. ⌜ r ≡ pick (eqb (s .parent) 0) (noted (now (cells .entry)) 0 k) true ⌝ }
+{
+    if s.parent != 0 {
+        return true;
+    }
+    holds(cells, 0, k)
+}
+
+// Do all root steps hold below the top?
+fn all_at_top(cells: &[u8; 16401], p: Pattern) -> bool
+    requires { ⌜ SoundPattern p × Whole (now cells) ⌝ }
+    ensures { λ r. ⌜ r ≡ kidsHold (noted (now (cells .entry)) 0) 0 1 (stepsIn p) ⌝ }
+{
+    let mut j = 0;
+    while j < p.count {
+        if !at_top(cells, p.steps[j], j + 1) {
+            return false;
+        }
+        j += 1;
+    }
+    true
+}
+
+// Does the document whose n nodes stand in the bytes from a place on satisfy the pattern?
+pub fn matches(d: &[u8], at: usize, n: usize, p: Pattern) -> bool
+    requires { ⌜ SoundPattern p × (n ≤ 1024) × (at + 3 * n ≤ length (now d)) × Rising (parentsOf (nodesAt (now d) at n)) ⌝ }
+    ensures { λ r. ⌜ r ≡ satisfies (nodesAt (now (d .entry)) at n) (patternOf p) ⌝ }
+{
+    let mut cells: [u8; 16401] = [0; 16401];
+    fill(&mut cells, d, at, n, p);
+    all_at_top(&cells, p)
+}
+
+// One pattern was asked of one document: the answer, and how many have been asked with it.
+pub struct Tried {
+    pub yes: bool,
+    pub tried: usize,
+}
+
+// A try: asks one pattern of one document, and adds one to the count.
+pub fn try_pattern(d: &[u8], at: usize, n: usize, p: Pattern, tried: usize) -> Tried
+    requires { ⌜ SoundPattern p × (n ≤ 1024) × (at + 3 * n ≤ length (now d)) × Rising (parentsOf (nodesAt (now d) at n)) × (tried < 2 ^ 32) ⌝ }
+    ensures { λ r. ⌜ (r .yes ≡ satisfies (nodesAt (now (d .entry)) at n) (patternOf p)) × (r .tried ≡ tried + 1) ⌝ }
+{
+    let asked = tried + 1;
+    Tried {
+        yes: matches(d, at, n, p),
+        tried: asked,
+    }
+}
