@@ -5,4 +5,5 @@ pub mod Lists
 pub mod ListLaws
 pub mod SomeNumber
 pub mod Replacing
+pub mod Storing
 pub mod Loops

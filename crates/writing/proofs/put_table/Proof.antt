@@ -1,0 +1,80 @@
+-- `writing::put_table` meets its contract. In turn i the entries from i on are left to store.
+use Prim.Native.Nat.{_-_, _<_}
+use mathlib.Core.Path.{refl, ap, _∙_}
+use native.Mathlib.Omega.{arith}
+use borrow.Author.Needs.{needs}
+use lib.ListN.{length, length-set}
+use lib.Seq.{sets, length-sets}
+use Rattle.base.specs.Storing.{partsFrom, left-first, left-same, Turn, turn-room, turn-goes-on, turns-end}
+use Rattle.meaning.specs.Written.{tableBytes}
+use Rattle.shapes.specs.Shapes.{tableOf}
+use Rattle.writing.specs.Bytes.{noEntry, bytesOf, table-bytes, entry-sound, entries-fit}
+use Rattle.writing.proofs.put_table.Statement.{statement}
+use Rattle.writing.proofs.put_table.Tie as tie
+
+abbrev Inv-loop : tie.InvT-loop
+Inv-loop out₀ t at₀ i₀ out at i = Turn bytesOf (t .count) (t .entries) (sets out₀ 1 (partsFrom bytesOf (t .count) 0 (t .entries))) (length (tableBytes (tableOf t))) out at i
+
+abbrev μ-loop : tie.MeasureT-loop
+μ-loop out₀ t at₀ i₀ out at i = t .count - i
+
+cast-out : tie.Need-cast-out Inv-loop μ-loop
+cast-out c = search (needs, c .before .pre .0 .few)
+
+slice-write-out : tie.Need-slice-write-out Inv-loop μ-loop
+slice-write-out c =
+    let room : 0 < length (c .before .args .out .now) = omega (arith, c .before .pre .1, ap length (table-bytes _ (c .before .pre .0))) in room
+
+loop-holds : tie.Need-loop-holds Inv-loop μ-loop
+loop-holds c =
+    let sound = c .before .pre .0 in
+    let long = length-set (c .before .args .out .now) 0 (c .before .args .t2 .count) in
+    record {
+      fits = entries-fit _ sound;
+      within = omega arith;
+      left = left-first _ _ refl (omega (arith, ap length (table-bytes _ sound))) (omega (arith, c .before .pre .1));
+    }
+
+mul-put-entry : tie.Need-mul-put-entry Inv-loop μ-loop
+mul-put-entry c = search needs
+
+element-copy-out-put-entry : tie.Need-element-copy-out-put-entry Inv-loop μ-loop
+element-copy-out-put-entry c = omega (arith, c .before .before .before .before .pre .0 .few)
+
+put-entry-requires : tie.Need-put-entry-requires Inv-loop μ-loop
+put-entry-requires c κs = (entry-sound _ (c .before .before .before .before .before .pre .0) _ _ (c .before .before .loop-test .taken), turn-room (c .before .before .before .loop .inv) noEntry (c .before .before .loop-test .taken))
+
+add-i : tie.Need-add-i Inv-loop μ-loop
+add-i c = search needs
+
+loop-less : tie.Need-loop-less Inv-loop μ-loop
+loop-less c = search needs
+
+loop-again : tie.Need-loop-again Inv-loop μ-loop
+loop-again c = turn-goes-on (c .before .before .before .before .before .before .loop .inv) noEntry (c .before .before .before .before .before .loop-test .taken) _ _ (c .before .before .put-entry .ensures .1) (c .before .before .put-entry .ensures .0)
+
+same-length : tie.Need-same-length Inv-loop μ-loop
+same-length c = left-same (c .before .loop .inv .left) ∙ simp (length-sets, length-set)
+
+returns : tie.Need-returns Inv-loop μ-loop
+returns c =
+    let sound = c .before .before .before .pre .0 in
+    rw (table-bytes _ sound) (turns-end (c .before .loop .inv) (c .loop-test .left) .1)
+
+pub put-table-spec : {M : Type 1} → statement M
+put-table-spec =
+    tie.close
+    (tie.spec
+    Inv-loop
+    μ-loop
+    cast-out
+    slice-write-out
+    loop-holds
+    mul-put-entry
+    element-copy-out-put-entry
+    put-entry-requires
+    add-i
+    loop-less
+    loop-again
+    same-length
+    returns)
