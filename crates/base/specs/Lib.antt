@@ -6,4 +6,7 @@ pub mod ListLaws
 pub mod SomeNumber
 pub mod Replacing
 pub mod Storing
+pub mod Mapping
+pub mod Numbering
+pub mod Scanning
 pub mod Loops

@@ -42,7 +42,7 @@ module _ (Q : List Entry → Type 0) (k : Takes Q) where
 -- ---- until there is none
 
 -- where no pair is left nothing is removed
-settled-stays : (n : ℕ) (es : List Entry) → covering es ≡ [] → settleTimes n es ≡ es
+pub settled-stays : (n : ℕ) (es : List Entry) → covering es ≡ [] → settleTimes n es ≡ es
 unfolding settleTimes settleAt
 settled-stays zero es e = refl
 settled-stays (suc n) es e = ap (λ (cs : List Pair). settleTimes n (settleAt cs es)) e ∙ settled-stays n es e

@@ -1,0 +1,19 @@
+-- `round` meets its contract: a merge or a cut, then settling.
+use mathlib.Core.Path.{_∙_, ap}
+use Rattle.meaning.specs.Building.{settle, round}
+use borrow.Author.Needs.{needs}
+use Rattle.building.proofs.rounds.round.Statement.{statement}
+use Rattle.building.proofs.rounds.round.Tie as tie
+
+merge-or-cut-requires : tie.Need-merge-or-cut-requires
+merge-or-cut-requires c κs = search needs
+
+settle-requires : tie.Need-settle-requires
+settle-requires c κs = search needs
+
+returns : tie.Need-returns
+unfolding round
+returns c = (c .settle .ensures .0 ∙ ap settle (c .before .merge-or-cut .ensures .0), c .settle .ensures .1)
+
+pub round-spec : {M : Type 1} → statement M
+round-spec = tie.close (tie.spec merge-or-cut-requires settle-requires returns)

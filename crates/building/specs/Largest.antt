@@ -1,0 +1,77 @@
+-- The entry with most steps, found entry by entry; and it loses its last step.
+use Prim.Native.Nat.{ℕ, _+_, _-_, _≤_, _<_}
+use mathlib.Core.Path.{_≡_, refl, sym, _∙_, ap}
+use mathlib.Core.List.{List}
+use native.Mathlib.Omega.{arith}
+use borrow.Author.Tests.{lt-ltb, le-ltb}
+use mathlib.Core.Bool.{true, false}
+use lib.Dec.{ltb}
+use lib.ListN.{getD}
+use Rattle.base.specs.Choice.{pick}
+use Rattle.base.specs.Lists.{numbersFrom}
+use Rattle.base.specs.Numbering.{numbers-split, numbers-end}
+use Rattle.meaning.specs.Building.{entryAt, entrySteps, cut, largest, cutLargest}
+use Rattle.shapes.specs.Shapes.{patternOf, SoundPattern, entryOf, entriesIn, tableOf, SoundTable}
+use Rattle.shapes.specs.declared.Pattern.{Pattern}
+use Rattle.shapes.specs.declared.Entry.{Entry}
+use Rattle.shapes.specs.declared.Table.{Table}
+use Rattle.building.specs.Held.{blank, length-table, entry-at, steps-at, put, put-table, put-sound}
+
+-- the entry found is i, and those from j on are still to be asked
+pub record Largest (t : Table) (i j : ℕ) : Type 0 where
+  pub there : i < t .count
+  pub reached : j ≤ t .count
+  pub rest : largest (tableOf t) (numbersFrom j (t .count - j)) i ≡ largest (tableOf t) (numbersFrom 0 (t .count)) 0
+
+-- before the first entry
+pub largest-starts : (t : Table) → 0 < t .count → Largest t 0 0
+largest-starts t h = record { there = h; reached = omega arith; rest = ap (λ (n : ℕ). largest (tableOf t) (numbersFrom 0 n) 0) (omega arith) }
+
+module _ (t : Table) (i j : ℕ) (s : SoundTable t) (h : j < t .count) (z : Largest t i j) where
+  -- with one entry asked
+  here : largest (tableOf t) (numbersFrom (j + 1) (t .count - (j + 1))) (pick (ltb (entrySteps (entryAt (tableOf t) i)) (entrySteps (entryAt (tableOf t) j))) j i)
+      ≡ largest (tableOf t) (numbersFrom 0 (t .count)) 0
+  unfolding largest
+  here = ap (λ (js : List ℕ). largest (tableOf t) js i) (sym (numbers-split j (t .count) h)) ∙ z .rest
+
+  -- it has more steps and is the largest so far
+  pub larger : getD (t .entries) i blank .pattern .count < getD (t .entries) j blank .pattern .count → Largest t j (j + 1)
+  unfolding pick
+  larger l = record { there = h; reached = omega arith; rest = rw test at here }
+    where
+      test : ltb (entrySteps (entryAt (tableOf t) i)) (entrySteps (entryAt (tableOf t) j)) ≡ true
+      test = lt-ltb (entrySteps (entryAt (tableOf t) i)) (entrySteps (entryAt (tableOf t) j)) (omega (arith, steps-at t s i blank (z .there), steps-at t s j blank h))
+
+  -- it has no more, and on ties the first stays
+  pub not-larger : getD (t .entries) j blank .pattern .count ≤ getD (t .entries) i blank .pattern .count → Largest t i (j + 1)
+  unfolding pick
+  not-larger l = record { there = z .there; reached = omega arith; rest = rw test at here }
+    where
+      test : ltb (entrySteps (entryAt (tableOf t) i)) (entrySteps (entryAt (tableOf t) j)) ≡ false
+      test = le-ltb (entrySteps (entryAt (tableOf t) i)) (entrySteps (entryAt (tableOf t) j)) (omega (arith, steps-at t s i blank (z .there), steps-at t s j blank h))
+
+-- after the last entry
+pub largest-ends : (t : Table) (i j : ℕ) → t .count ≤ j → Largest t i j → i ≡ largest (tableOf t) (numbersFrom 0 (t .count)) 0
+unfolding largest
+largest-ends t i j h z = sym (ap (λ (js : List ℕ). largest (tableOf t) js i) (numbers-end j (t .count) h)) ∙ z .rest
+
+-- an entry with another pattern
+abbrev pub changed : Entry → Pattern → Entry
+changed e p = record { members = e .members; pattern = p }
+
+-- a table with no entries has none to cut
+pub cut-empty : (t : Table) → t .count ≡ 0 → tableOf t ≡ cutLargest (tableOf t)
+unfolding tableOf entriesIn cutLargest
+cut-empty t e = rw e refl
+
+module _ (t : Table) (i : ℕ) (p : Pattern) (s : SoundTable t) (h : i < t .count) (e : i ≡ largest (tableOf t) (numbersFrom 0 (t .count)) 0) where
+  -- the entry with most steps without its last step is what the definition cuts
+  pub cut-there : patternOf p ≡ cut (patternOf (getD (t .entries) i blank .pattern)) → tableOf (put t s i (changed (getD (t .entries) i blank) p) h) ≡ cutLargest (tableOf t)
+  unfolding cutLargest entryOf
+  cut-there q =
+      put-table t s i (changed (getD (t .entries) i blank) p) h
+      ∙ rw (length-table t s, ← e, entry-at t s i blank h, q)
+
+  -- and it is well formed
+  pub cut-sound : SoundPattern p → SoundTable (put t s i (changed (getD (t .entries) i blank) p) h)
+  cut-sound sp = put-sound t s i (changed (getD (t .entries) i blank) p) h sp

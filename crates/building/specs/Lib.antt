@@ -1,0 +1,14 @@
+pub mod Held
+pub mod Summing
+pub mod Removing
+pub mod Joining
+pub mod Shortened
+pub mod Largest
+pub mod Saving
+pub mod Finding
+pub mod Rows
+pub mod Changing
+pub mod Counting
+pub mod Pairs
+pub mod Settled
+pub mod Turns

@@ -1,0 +1,57 @@
+// Entries of a table: two are joined, one is removed, the steps of all are counted.
+use shapes::Entry;
+use shapes::Pattern;
+use shapes::Table;
+ghost use mathlib.Core.Path.{_≡_};
+ghost use Prim.Native.Nat.{_<_, _≤_};
+ghost use Rattle.base.specs.Lists.{without};
+ghost use Rattle.meaning.specs.Building.{pair, joinAt, stepsTogether};
+ghost use Rattle.shapes.specs.Shapes.{patternOf, SoundPattern, tableOf, SoundTable};
+
+// The steps together.
+pub fn steps_together(t: Table) -> usize
+    requires { ⌜ SoundTable t ⌝ }
+    ensures { λ r. ⌜ (r ≡ stepsTogether (tableOf t)) × (r ≤ 1024) ⌝ }
+{
+    let mut n = 0;
+    let mut i = 0;
+    while i < t.count {
+        let e = t.entries[i];
+        let p = e.pattern;
+        n += p.count;
+        i += 1;
+    }
+    n
+}
+
+// Entry j is removed, and the later ones are moved down.
+fn remove(t: Table, j: usize) -> Table
+    requires { ⌜ SoundTable t × (j < t .count) ⌝ }
+    ensures { λ r. ⌜ (tableOf r ≡ without j (tableOf t)) × SoundTable r ⌝ }
+{
+    let last = t.count - 1;
+    let mut u = t;
+    let mut k = j;
+    while k < last {
+        let e = u.entries[k + 1];
+        u.entries[k] = e;
+        k += 1;
+    }
+    u.count = last;
+    u
+}
+
+// The pattern stands at i with the members of i and j, and j is removed.
+pub fn join_at(t: Table, p: Pattern, i: usize, j: usize) -> Table
+    requires { ⌜ SoundTable t × SoundPattern p × (i < t .count) × (j < t .count) ⌝ }
+    ensures { λ r. ⌜ (tableOf r ≡ joinAt (patternOf p) (pair i j) (tableOf t)) × SoundTable r ⌝ }
+{
+    let a = t.entries[i];
+    let b = t.entries[j];
+    let mut u = t;
+    u.entries[i] = Entry {
+        members: a.members | b.members,
+        pattern: p,
+    };
+    remove(u, j)
+}

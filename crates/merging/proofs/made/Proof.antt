@@ -1,0 +1,33 @@
+use mathlib.Core.Path.{_≡_, refl, sym}
+use native.Mathlib.Omega.{arith}
+use Rattle.meaning.specs.Forest.{axisOf}
+use Rattle.shapes.specs.Shapes.{patternOf, stepsIn}
+use Rattle.covering.specs.Questions.{childrenOf}
+use Rattle.merging.specs.Copying.{one-branch}
+use Rattle.merging.specs.Branches.{root-children}
+use borrow.Author.Needs.{needs}
+use Rattle.merging.proofs.made.Statement.{statement}
+use Rattle.merging.proofs.made.Tie as tie
+use Rattle.merging.proofs.made.Reads as reads
+use Rattle.merging.proofs.made.Lts as lts
+use Rattle.merging.proofs.copied.Reads as copied-reads
+use Rattle.merging.proofs.one.Reads as one-reads
+
+-- src/lib.rt:277:25
+one-requires : tie.Need-one-requires
+one-requires c κs = search needs
+
+-- src/lib.rt:277:18
+copied-requires : tie.Need-copied-requires
+copied-requires c κs = search needs
+
+-- src/lib.rt:271:1
+returns : tie.Need-returns
+unfolding axisOf
+returns c =
+    let a = c .before .before .before .args in
+    let e : childrenOf (stepsIn (a .built .pattern)) 0 ≡ patternOf (a .built .pattern) = root-children (a .built .pattern) in
+    record { stands = rw (sym e) (one-branch _ _ 0 (a .label) (childrenOf (stepsIn (a .built .pattern)) 0) (omega arith) (c .before .one .ensures) (c .copied .ensures)); mark = refl }
+
+pub made-spec : {M : Type 1} → statement M
+made-spec = tie.close (tie.spec one-requires copied-requires returns)

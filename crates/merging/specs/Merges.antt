@@ -1,0 +1,53 @@
+-- The merge of two patterns by value is one of them, or what is built at the pair of their roots.
+use mathlib.Core.Path.{_≡_, refl, sym, _∙_, ap}
+use mathlib.Core.Bool.{Bool, true, false}
+use Rattle.base.specs.Choice.{pick}
+use Rattle.meaning.specs.Forest.{Forest}
+use Rattle.meaning.specs.Covering.{covers}
+use Rattle.meaning.specs.Merging.{joined, Building, nothing, through, Merge, mergeWithin, merge}
+use Rattle.shapes.specs.Shapes.{patternOf, stepsIn, SoundPattern}
+use Rattle.shapes.specs.declared.Pattern.{Pattern}
+use Rattle.laws.specs.MergeSize.{merge-first, merge-second}
+use Rattle.covering.specs.Questions.{childrenOf}
+use Rattle.merging.specs.declared.Marked.{Marked}
+use Rattle.merging.specs.Branches.{branchesOf, joined-branches, buildingAt, root-children}
+use Rattle.merging.specs.Offers.{buildingOf, Built}
+
+-- a value that is a merge
+pub record IsMerge (r : Marked) (m : Merge) : Type 0 where
+  pub pattern : patternOf (r .pattern) ≡ m .pattern
+  pub mark : r .clipped ≡ m .clipped
+  pub sound : SoundPattern (r .pattern)
+
+module _ (p q : Pattern) (first second : Bool) (said : first ≡ covers (patternOf p) (patternOf q)) where
+  -- p covers q
+  pub merges-first : SoundPattern p → first ≡ true → IsMerge (record { pattern = p; clipped = false }) (merge (patternOf p) (patternOf q))
+  unfolding merge
+  merges-first sound t =
+      let e = merge-first 16 (patternOf p) (patternOf q) (sym said ∙ t) in
+      record { pattern = sym (ap (λ (m : Merge). m .pattern) e); mark = sym (ap (λ (m : Merge). m .clipped) e); sound = sound }
+
+  module _ (un : first ≡ false) (said₂ : second ≡ covers (patternOf q) (patternOf p)) where
+    -- q covers p
+    pub merges-second : SoundPattern q → second ≡ true → IsMerge (record { pattern = q; clipped = false }) (merge (patternOf p) (patternOf q))
+    unfolding merge
+    merges-second sound t =
+        let e = merge-second 16 (patternOf p) (patternOf q) (sym said ∙ un) (sym said₂ ∙ t) in
+        record { pattern = sym (ap (λ (m : Merge). m .pattern) e); mark = sym (ap (λ (m : Merge). m .clipped) e); sound = sound }
+
+    built-merge : second ≡ false → mergeWithin 16 (patternOf p) (patternOf q)
+        ≡ record { pattern = joined (through 16 (patternOf p) true 0 (patternOf q) nothing .kept); clipped = through 16 (patternOf p) true 0 (patternOf q) nothing .clipped }
+    unfolding mergeWithin pick
+    built-merge u = rw (sym said ∙ un, sym said₂ ∙ u)
+
+    -- it is built
+    pub merges-built : second ≡ false → (r : Marked) → Built 0 r (through 16 (childrenOf (stepsIn p) 0) true 0 (childrenOf (stepsIn q) 0) nothing) → IsMerge r (merge (patternOf p) (patternOf q))
+    unfolding merge buildingOf buildingAt
+    merges-built u r h =
+        let e = built-merge u in
+        let is : buildingOf r ≡ through 16 (patternOf p) true 0 (patternOf q) nothing = rw (root-children p, root-children q) at (h .is) in
+        record {
+          pattern = sym (joined-branches (patternOf (r .pattern))) ∙ ap (λ (b : Building). joined (b .kept)) is ∙ sym (ap (λ (m : Merge). m .pattern) e);
+          mark = ap (λ (b : Building). b .clipped) is ∙ sym (ap (λ (m : Merge). m .clipped) e);
+          sound = h .sound;
+        }
