@@ -10,3 +10,4 @@ pub mod Mapping
 pub mod Numbering
 pub mod Scanning
 pub mod Loops
+pub mod Standing

@@ -1,0 +1,61 @@
+-- `documents::label_number` meets its contract.
+use Rattle.documents.specs.LabelRead.{number-there, number-zero, number-over, number-refused}
+use native.Mathlib.Omega.{arith}
+use denote.Ref.{now}
+use mathlib.Core.Path.{sym, _∙_}
+use borrow.Author.Needs.{needs}
+use Rattle.documents.proofs.label_number.Statement.{statement}
+use Rattle.documents.proofs.label_number.Tie as tie
+
+both-requires : tie.Need-both-requires
+both-requires c κs = search needs
+
+enum-known-x : tie.Need-enum-known-x
+enum-known-x c = search needs
+
+returns : tie.Need-returns
+returns c =
+    let a = c .before .before .before .before .before .before .before .args in
+    number-zero (now (a .s)) (now (a .d)) (a .n) (c .before .before .x .given .0 .0) (sym (c .before .before .before .before .both .ensures) ∙ c .before .before .x .given .1) (omega arith)
+
+byte-at-requires : tie.Need-byte-at-requires
+byte-at-requires c κs = search needs
+
+byte-at-requires-2 : tie.Need-byte-at-requires-2
+byte-at-requires-2 c κs = search needs
+
+add-all : tie.Need-add-all
+add-all c = search needs
+
+returns-2 : tie.Need-returns-2
+returns-2 c =
+    let a = c .before .before .before .before .before .before .before .before .before .before .args in
+    number-over (now (a .s)) (now (a .d)) (a .n) (c .before .before .before .before .before .x .given .0 .0) (sym (c .before .before .before .before .before .before .before .both .ensures) ∙ c .before .before .before .before .before .x .given .1) (omega arith) (omega arith)
+
+enum-known-m : tie.Need-enum-known-m
+enum-known-m c = search needs
+
+returns-3 : tie.Need-returns-3
+returns-3 c =
+    let a = c .before .before .before .before .before .before .before .before .before .before .args in
+    number-there (now (a .s)) (now (a .d)) (a .n) (c .before .before .before .before .before .x .given .0 .0) (sym (c .before .before .before .before .before .before .before .both .ensures) ∙ c .before .before .before .before .before .x .given .1) (omega arith) (omega arith)
+
+returns-4 : tie.Need-returns-4
+returns-4 c =
+    let a = c .before .before .before .before .before .before .args in
+    number-refused (now (a .s)) (now (a .d)) (a .n) (c .before .m .given .0 .0) (sym (c .before .before .before .both .ensures) ∙ c .before .m .given .1)
+
+pub label-number-spec : {M : Type 1} → statement M
+label-number-spec =
+    tie.close
+    (tie.spec
+    both-requires
+    enum-known-x
+    returns
+    byte-at-requires
+    byte-at-requires-2
+    add-all
+    returns-2
+    enum-known-m
+    returns-3
+    returns-4)

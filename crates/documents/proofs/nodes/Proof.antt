@@ -1,0 +1,52 @@
+-- `documents::nodes` meets its contract.
+use Rattle.documents.specs.Judging.{nodesPlace}
+use Rattle.base.specs.Choice.{picks}
+use borrow.Author.Needs.{needs}
+use Rattle.documents.proofs.nodes.Statement.{statement}
+use Rattle.documents.proofs.nodes.Tie as tie
+
+returns : tie.Need-returns
+unfolding nodesPlace
+returns c = search picks depth 15
+
+add-if2 : tie.Need-add-if2
+add-if2 c = search needs
+
+returns-2 : tie.Need-returns-2
+unfolding nodesPlace
+returns-2 c = search picks depth 15
+
+pair-at-requires : tie.Need-pair-at-requires
+pair-at-requires c κs = search needs
+
+returns-3 : tie.Need-returns-3
+unfolding nodesPlace
+returns-3 c = rw (← (c .before .pair-at .ensures .0)) (search picks depth 15)
+
+returns-4 : tie.Need-returns-4
+unfolding nodesPlace
+returns-4 c = rw (← (c .before .before .pair-at .ensures .0)) (search picks depth 15)
+
+add-nodes-from : tie.Need-add-nodes-from
+add-nodes-from c = search needs
+
+nodes-from-requires : tie.Need-nodes-from-requires
+nodes-from-requires c κs = search needs
+
+returns-5 : tie.Need-returns-5
+unfolding nodesPlace
+returns-5 c = rw (← (c .before .before .before .pair-at .ensures .0)) (search picks depth 15)
+
+pub nodes-spec : {M : Type 1} → statement M
+nodes-spec =
+    tie.close
+    (tie.spec
+    returns
+    add-if2
+    returns-2
+    pair-at-requires
+    returns-3
+    returns-4
+    add-nodes-from
+    nodes-from-requires
+    returns-5)

@@ -1,0 +1,130 @@
+-- What follows from a sheet and a document by the place that judging both reached, and the bytes of a label by its number.
+use Prim.Native.Nat.{ℕ, zero, suc, _+_, _-_, _≤_, _<_}
+use mathlib.Core.Path.{_≡_, refl, sym, ap, _∙_}
+use mathlib.Core.List.{List, [], _++_}
+use lib.ListN.{length, getD, length-append, List·getD-append, List·getD-eq-default}
+use lib.Seq.{getD-append-add}
+use native.Mathlib.Omega.{arith}
+use borrow.Author.Tests.{le-leb, lt-leb}
+use Rattle.base.specs.Choice.{pick}
+use Rattle.base.specs.Standing.{placeAfter, getD-standing}
+use Rattle.base.specs.Loops.{andThen}
+use Rattle.base.specs.declared.Cur.{Cur}
+use Rattle.base.specs.declared.Cur.the-variants.{At, No}
+use Rattle.meaning.specs.Sections.{Sheet, sheet, Document, document}
+use Rattle.meaning.specs.LabelBytes.{labelsOf, isLabel, labelAt}
+use Rattle.meaning.specs.Calls.{judged, labelNumber, labelPart}
+use Rattle.reading.specs.Places.{textAt, afterLabel, textsAt, sheetAt}
+use Rattle.reading.specs.Judging.{sheetPlace}
+use Rattle.reading.specs.Answer.{answer}
+use Rattle.reading.specs.SheetRead.{sheet-read, length-texts}
+use Rattle.documents.specs.Judging.{documentPlace, bothPlace, documentAt}
+use Rattle.documents.specs.DocumentRead.{document-read}
+
+module _ {B : Type 0} (s d : List ℕ) (refuse : ℕ → B) (next : Sheet → Document → B) where
+  -- both were read: what follows is of the sheet and the document that stand there
+  pub both-read : (x : ℕ) → bothPlace s d ≡ At x → judged (sheet s) refuse (λ sh. judged (document sh d) refuse (next sh)) ≡ next (sheetAt s) (documentAt d)
+  unfolding bothPlace andThen answer judged
+  both-read x h = rw (sheet-read s) (first (sheetPlace s) h)
+    where
+      then : (c : Cur) → c ≡ At x → judged (answer d (documentAt d) c) refuse (next (sheetAt s)) ≡ next (sheetAt s) (documentAt d)
+      then (At y) e = refl
+      then (No m) e = let z : _≡_ {A = ℕ} 0 1 = cc in absurd (omega arith)
+
+      first : (c : Cur) → andThen c (λ y. documentPlace s (getD s 0 0) d) ≡ At x → judged (answer s (sheetAt s) c) refuse (λ sh. judged (document sh d) refuse (next sh)) ≡ next (sheetAt s) (documentAt d)
+      first (At y) e = rw (document-read s d) (then (documentPlace s (getD s 0 0) d) e)
+      first (No m) e = let z : _≡_ {A = ℕ} 0 1 = cc in absurd (omega arith)
+
+  -- one was refused
+  pub both-refused : (n : ℕ) → bothPlace s d ≡ No n → judged (sheet s) refuse (λ sh. judged (document sh d) refuse (next sh)) ≡ refuse n
+  unfolding bothPlace andThen answer judged
+  both-refused n h = rw (sheet-read s) (first (sheetPlace s) h)
+    where
+      then : (c : Cur) → c ≡ No n → judged (answer d (documentAt d) c) refuse (next (sheetAt s)) ≡ refuse n
+      then (At y) e = let z : _≡_ {A = ℕ} 0 1 = cc in absurd (omega arith)
+      then (No m) e = let z : m ≡ n = cc in ap refuse z
+
+      first : (c : Cur) → andThen c (λ y. documentPlace s (getD s 0 0) d) ≡ No n → judged (answer s (sheetAt s) c) refuse (λ sh. judged (document sh d) refuse (next sh)) ≡ refuse n
+      first (At y) e = rw (document-read s d) (then (documentPlace s (getD s 0 0) d) e)
+      first (No m) e = let z : m ≡ n = cc in ap refuse z
+
+-- ---- the labels of both
+
+module _ (s d : List ℕ) (n : ℕ) where
+  -- there are S + D of them
+  labels-counted : length (labelsOf (sheetAt s) (documentAt d)) ≡ getD s 0 0 + getD d 0 0
+  unfolding labelsOf sheetAt documentAt
+  labels-counted = length-append (textsAt s 1 (getD s 0 0)) (textsAt d 1 (getD d 0 0)) ∙ rw (length-texts s 1 (getD s 0 0), length-texts d 1 (getD d 0 0))
+
+  -- the number of a label: whether it exists
+  pub number-there : (x : ℕ) → bothPlace s d ≡ At x → 1 ≤ n → n ≤ getD s 0 0 + getD d 0 0 → 0 ≡ labelNumber s d n
+  unfolding labelNumber isLabel pick
+  number-there x h a b = sym (both-read s d (λ m. m) (λ sh dc. pick (isLabel (labelsOf sh dc) n) 0 11) x h ∙ rw (labels-counted, le-leb 1 n a, le-leb n (getD s 0 0 + getD d 0 0) b))
+
+  -- 0 is no label
+  pub number-zero : (x : ℕ) → bothPlace s d ≡ At x → n < 1 → 11 ≡ labelNumber s d n
+  unfolding labelNumber isLabel pick
+  number-zero x h a = sym (both-read s d (λ m. m) (λ sh dc. pick (isLabel (labelsOf sh dc) n) 0 11) x h ∙ rw (lt-leb 1 n a))
+
+  -- nor is a number over S + D
+  pub number-over : (x : ℕ) → bothPlace s d ≡ At x → 1 ≤ n → getD s 0 0 + getD d 0 0 < n → 11 ≡ labelNumber s d n
+  unfolding labelNumber isLabel pick
+  number-over x h a b = sym (both-read s d (λ m. m) (λ sh dc. pick (isLabel (labelsOf sh dc) n) 0 11) x h ∙ rw (labels-counted, le-leb 1 n a, lt-leb n (getD s 0 0 + getD d 0 0) b))
+
+  -- a refusal gives its own number
+  pub number-refused : (m : ℕ) → bothPlace s d ≡ No m → m ≡ labelNumber s d n
+  unfolding labelNumber
+  number-refused m h = sym (both-refused s d (λ k. k) (λ sh dc. pick (isLabel (labelsOf sh dc) n) 0 11) m h)
+
+  -- the part of a label: empty on a refusal
+  pub part-refused : (m : ℕ) → bothPlace s d ≡ No m → [] ≡ labelPart s d n
+  unfolding labelPart
+  part-refused m h = sym (both-refused s d (λ k. []) (λ sh dc. labelAt (labelsOf sh dc) n) m h)
+
+  -- empty for 0
+  pub part-zero : (x : ℕ) → bothPlace s d ≡ At x → n < 1 → [] ≡ labelPart s d n
+  unfolding labelPart labelAt
+  part-zero x h a = sym (both-read s d (λ k. []) (λ sh dc. labelAt (labelsOf sh dc) n) x h ∙ none n a)
+    where
+      none : (k : ℕ) → k < 1 → labelAt (labelsOf (sheetAt s) (documentAt d)) k ≡ []
+      none zero b = refl
+      none (suc k) b = absurd (omega arith)
+
+  -- label n is the one at n - 1
+  counted-from-one : (ls : List (List ℕ)) (k : ℕ) → 1 ≤ k → labelAt ls k ≡ getD ls (k - 1) []
+  unfolding labelAt
+  counted-from-one ls zero a = absurd (omega arith)
+  counted-from-one ls (suc k) a = let e : suc k - 1 ≡ k = omega arith in rw e
+
+  -- otherwise it is one of both, counted from 0
+  reached : (x : ℕ) → bothPlace s d ≡ At x → 1 ≤ n → labelPart s d n ≡ getD (textsAt s 1 (getD s 0 0) ++ textsAt d 1 (getD d 0 0)) (n - 1) []
+  unfolding labelPart labelsOf sheetAt documentAt
+  reached x h a =
+      both-read s d (λ k. []) (λ sh dc. labelAt (labelsOf sh dc) n) x h
+      ∙ counted-from-one (textsAt s 1 (getD s 0 0) ++ textsAt d 1 (getD d 0 0)) n a
+
+  -- from the sheet's section
+  pub part-of-sheet : (x : ℕ) → bothPlace s d ≡ At x → 1 ≤ n → n ≤ getD s 0 0 → textAt s (placeAfter (afterLabel s) 1 (n - 1)) ≡ labelPart s d n
+  unfolding textsAt
+  part-of-sheet x h a b =
+      sym (reached x h a
+      ∙ List·getD-append (textsAt s 1 (getD s 0 0)) (textsAt d 1 (getD d 0 0)) [] (n - 1) (omega (arith, length-texts s 1 (getD s 0 0)))
+      ∙ getD-standing (textAt s) (afterLabel s) 1 (getD s 0 0) (n - 1) [] (omega arith))
+
+  -- from the document's
+  pub part-of-document : (x : ℕ) → bothPlace s d ≡ At x → getD s 0 0 < n → n - getD s 0 0 ≤ getD d 0 0 → textAt d (placeAfter (afterLabel d) 1 (n - getD s 0 0 - 1)) ≡ labelPart s d n
+  unfolding textsAt
+  part-of-document x h a b =
+      let past : n - 1 ≡ length (textsAt s 1 (getD s 0 0)) + (n - getD s 0 0 - 1) = omega (arith, length-texts s 1 (getD s 0 0)) in
+      sym (reached x h (omega arith)
+      ∙ ap (λ (k : ℕ). getD (textsAt s 1 (getD s 0 0) ++ textsAt d 1 (getD d 0 0)) k []) past
+      ∙ getD-append-add (textsAt s 1 (getD s 0 0)) (textsAt d 1 (getD d 0 0)) (n - getD s 0 0 - 1) []
+      ∙ getD-standing (textAt d) (afterLabel d) 1 (getD d 0 0) (n - getD s 0 0 - 1) [] (omega arith))
+
+  -- empty past the last
+  pub part-over : (x : ℕ) → bothPlace s d ≡ At x → getD s 0 0 < n → getD d 0 0 < n - getD s 0 0 → [] ≡ labelPart s d n
+  part-over x h a b =
+      let both = textsAt s 1 (getD s 0 0) ++ textsAt d 1 (getD d 0 0) in
+      let long : length both ≡ getD s 0 0 + getD d 0 0 =
+      length-append (textsAt s 1 (getD s 0 0)) (textsAt d 1 (getD d 0 0)) ∙ rw (length-texts s 1 (getD s 0 0), length-texts d 1 (getD d 0 0)) in
+      sym (reached x h (omega arith) ∙ List·getD-eq-default both [] (omega arith))

@@ -1,0 +1,122 @@
+// Patterns by value out of a sheet or a table, and where the subscriptions of a sheet stand.
+use meaning::Step;
+use reading::byte_at;
+use reading::labels::after_labels;
+use shapes::Pattern;
+ghost use mathlib.Core.Path.{_≡_};
+ghost use Prim.Native.Nat.{_+_, _*_, _^_, _≤_, _<_};
+ghost use lib.ListN.{length};
+ghost use Rattle.reading.specs.Places.{stepAt, stepsAt, afterPattern};
+ghost use Rattle.patterns.specs.Taken.{noSteps, patternAt, patternPlaces, subscriptionsOf};
+
+// How many subscriptions a sheet has, and the place of each; behind those, the places go on in the same way.
+pub struct Subscriptions {
+    pub count: usize,
+    pub places: [usize; 64],
+}
+
+// The step at x.
+fn step_at(s: &[u8], x: usize) -> Step
+    requires { ⌜ x < 2 ^ 63 + 100 ⌝ }
+    ensures { λ r. ⌜ r ≡ stepAt (now (s .entry)) x ⌝ }
+{
+    let parent = byte_at(s, x) as u8;
+    let axis = byte_at(s, x + 1) as u8;
+    let label = byte_at(s, x + 2) as u8;
+    Step {
+        parent,
+        axis,
+        label,
+    }
+}
+
+// The sixteen steps from the place p on.
+fn steps_at(s: &[u8], p: usize) -> [Step; 16]
+    requires { ⌜ p ≤ length (now s) ⌝ }
+    ensures { λ r. ⌜ r ≡ stepsAt (now (s .entry)) p 16 ⌝ }
+{
+    let mut steps = [Step {
+        parent: 0,
+        axis: 0,
+        label: 0,
+    }; 16];
+    let mut i = 0;
+    let mut x = p;
+    while i < 16 {
+        steps[i] = step_at(s, x);
+        x += 3;
+        i += 1;
+    }
+    steps
+}
+
+// The pattern without steps.
+fn none() -> Pattern
+    ensures { λ r. ⌜ r ≡ noSteps ⌝ }
+{
+    Pattern {
+        count: 0,
+        steps: [Step {
+            parent: 0,
+            axis: 0,
+            label: 0,
+        }; 16],
+    }
+}
+
+// The pattern at x, without steps where the count is over 16 or bytes are missing.
+pub fn pattern_at(s: &[u8], x: usize) -> Pattern
+    ensures { λ r. ⌜ r ≡ patternAt (now (s .entry)) x ⌝ }
+{
+    if s.len() <= x {
+        return none();
+    }
+    let n = byte_at(s, x);
+    if 16 < n {
+        return none();
+    }
+    if s.len() - (x + 1) < 3 * n {
+        return none();
+    }
+    Pattern {
+        count: n,
+        steps: steps_at(s, x + 1),
+    }
+}
+
+// The place after the pattern at x.
+pub fn after_pattern(s: &[u8], x: usize) -> usize
+    requires { ⌜ x < 2 ^ 63 ⌝ }
+    ensures { λ r. ⌜ (r ≡ afterPattern (now (s .entry)) x) × (r ≤ x + 766) ⌝ }
+{
+    x + 1 + 3 * byte_at(s, x)
+}
+
+// The places of the patterns from the place p on.
+fn pattern_places(s: &[u8], p: usize) -> [usize; 64]
+    requires { ⌜ p < 65800 ⌝ }
+    ensures { λ r. ⌜ r ≡ patternPlaces (now (s .entry)) p 64 ⌝ }
+{
+    let mut places = [0; 64];
+    let mut i = 0;
+    let mut x = p;
+    while i < 64 {
+        places[i] = x;
+        x = after_pattern(s, x);
+        i += 1;
+    }
+    places
+}
+
+// The subscriptions of a sheet.
+pub fn subscriptions_in(s: &[u8]) -> Subscriptions
+    ensures { λ r. ⌜ r ≡ subscriptionsOf (now (s .entry)) ⌝ }
+{
+    let x = after_labels(s, 1, byte_at(s, 0));
+    let places = pattern_places(s, x + 1);
+    let n = byte_at(s, x);
+    if n <= 64 {
+        return Subscriptions { count: n, places };
+    }
+    Subscriptions { count: 0, places }
+}

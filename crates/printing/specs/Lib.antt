@@ -1,0 +1,9 @@
+pub mod Output
+pub mod Decimals
+pub mod Texts
+pub mod Members
+pub mod Branches
+pub mod Tables
+pub mod ShortLabels
+pub mod Room
+pub mod Printed

@@ -1,0 +1,98 @@
+// A table's text: first the totals, then a line for each entry: members ascending, pattern, labels as their bytes.
+use crate::patterns::put_pattern;
+use crate::put_bytes;
+use crate::put_counted;
+use crate::put_decimal;
+use crate::put_if;
+use shapes::Entry;
+use shapes::Table;
+ghost use mathlib.Core.Path.{_≡_};
+ghost use Rattle.meaning.specs.Building.{stepsTogether};
+ghost use Rattle.meaning.specs.Routing.{membersOf};
+ghost use Rattle.meaning.specs.Printing.{commaText, entryText};
+ghost use Rattle.shapes.specs.Shapes.{entryOf, tableOf, SoundPattern, SoundTable};
+ghost use Rattle.printing.specs.Output.{written, put};
+ghost use Rattle.printing.specs.Texts.{labelsIn};
+ghost use Rattle.printing.specs.Tables.{totalsOf, builtTable, textOf};
+
+// The members of an entry, of n subscriptions, ascending, with a comma between them; the next place.
+pub fn put_members(out: &mut [u8], at: usize, members: u64, n: usize) -> usize
+    ensures { λ r. ⌜ written (now (out .exit)) r ≡ put (written (now (out .entry)) at) (commaText (membersOf n members)) ⌝ }
+{
+    let mut next = at;
+    let mut started = false;
+    let mut left = members;
+    let mut i = 0;
+    while i < n {
+        let k = i;
+        let bit = left % 2;
+        i += 1;
+        left = left / 2;
+        if bit == 1 {
+            next = put_if(out, next, started, 44);
+            next = put_decimal(out, next, k);
+            started = true;
+        }
+    }
+    next
+}
+
+// The totals; the next place.
+fn put_totals(
+    out: &mut [u8],
+    at: usize,
+    subscriptions: usize,
+    entries: usize,
+    steps: usize,
+    rounds: usize,
+) -> usize
+    ensures { λ r. ⌜ written (now (out .exit)) r ≡ put (written (now (out .entry)) at) (totalsOf subscriptions entries steps rounds) ⌝ }
+{
+    let mut next = put_counted(out, at, subscriptions, b" subscriptions, ");
+    next = put_counted(out, next, entries, b" entries, ");
+    next = put_counted(out, next, steps, b" steps, ");
+    put_counted(out, next, rounds, b" rounds\n")
+}
+
+// A line for an entry, beside a sheet s of so many subscriptions; the next place.
+pub fn put_entry(out: &mut [u8], at: usize, s: &[u8], e: Entry, subscriptions: usize) -> usize
+    requires { ⌜ SoundPattern (e .pattern) ⌝ }
+    ensures { λ r. ⌜ written (now (out .exit)) r ≡ put (written (now (out .entry)) at) (entryText (labelsIn (now (s .entry))) subscriptions (entryOf e)) ⌝ }
+{
+    let mut next = put_members(out, at, e.members, subscriptions);
+    next = put_bytes(out, next, b": ");
+    next = put_pattern(out, next, s, e.pattern);
+    put_bytes(out, next, b"\n")
+}
+
+// The steps together.
+fn table_steps(t: Table) -> usize
+    requires { ⌜ SoundTable t ⌝ }
+    ensures { λ r. ⌜ r ≡ stepsTogether (tableOf t) ⌝ }
+{
+    let mut n: usize = 0;
+    let mut i = 0;
+    while i < t.count {
+        let e = t.entries[i];
+        let p = e.pattern;
+        n += p.count;
+        i += 1;
+    }
+    n
+}
+
+// A table: the totals, and a line for each entry; the next place.
+pub fn put_table(out: &mut [u8], s: &[u8], t: Table, subscriptions: usize, rounds: usize) -> usize
+    requires { ⌜ SoundTable t ⌝ }
+    ensures { λ r. ⌜ written (now (out .exit)) r ≡ put (written (now (out .entry)) 0) (textOf (labelsIn (now (s .entry))) subscriptions (builtTable t rounds)) ⌝ }
+{
+    let steps = table_steps(t);
+    let mut next = put_totals(out, 0, subscriptions, t.count, steps, rounds);
+    let mut i = 0;
+    while i < t.count {
+        let e = t.entries[i];
+        i += 1;
+        next = put_entry(out, next, s, e, subscriptions);
+    }
+    next
+}

@@ -1,0 +1,31 @@
+-- `reading::patterns::pattern` meets its contract.
+use Rattle.base.specs.Choice.{picks}
+use Rattle.reading.specs.Judging.{patternPlace}
+use borrow.Author.Needs.{needs}
+use Rattle.reading.proofs.patterns.pattern.Statement.{statement}
+use Rattle.reading.proofs.patterns.pattern.Tie as tie
+
+returns : tie.Need-returns
+unfolding patternPlace
+returns c = search picks depth 15
+
+byte-at-requires : tie.Need-byte-at-requires
+byte-at-requires c κs = search needs
+
+returns-2 : tie.Need-returns-2
+unfolding patternPlace
+returns-2 c = rw (← (c .before .byte-at .ensures .0)) (search picks depth 15)
+
+add-steps : tie.Need-add-steps
+add-steps c = search needs
+
+steps-requires : tie.Need-steps-requires
+steps-requires c κs = search needs
+
+returns-3 : tie.Need-returns-3
+unfolding patternPlace
+returns-3 c = rw (← (c .before .before .byte-at .ensures .0)) (search picks depth 15)
+
+pub pattern-spec : {M : Type 1} → statement M
+pattern-spec =
+    tie.close (tie.spec returns byte-at-requires returns-2 add-steps steps-requires returns-3)

@@ -1,0 +1,27 @@
+-- `reading::steps::step_label` meets its contract.
+use Rattle.base.specs.Choice.{picks}
+use Rattle.reading.specs.Judging.{stepLabel}
+use borrow.Author.Needs.{needs}
+use Rattle.reading.proofs.steps.step_label.Statement.{statement}
+use Rattle.reading.proofs.steps.step_label.Tie as tie
+
+returns : tie.Need-returns
+unfolding stepLabel
+returns c = search picks depth 15
+
+byte-at-requires : tie.Need-byte-at-requires
+byte-at-requires c κs = search needs
+
+returns-2 : tie.Need-returns-2
+unfolding stepLabel
+returns-2 c = rw (← (c .before .byte-at .ensures .0)) (search picks depth 15)
+
+add-t4 : tie.Need-add-t4
+add-t4 c = search needs
+
+returns-3 : tie.Need-returns-3
+unfolding stepLabel
+returns-3 c = rw (← (c .before .byte-at .ensures .0)) (search picks depth 15)
+
+pub step-label-spec : {M : Type 1} → statement M
+step-label-spec = tie.close (tie.spec returns byte-at-requires returns-2 add-t4 returns-3)

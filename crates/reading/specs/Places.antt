@@ -1,0 +1,66 @@
+-- Where labels, steps and patterns stand in bytes, and what stands there: for any bytes and any place.
+use Prim.Native.Nat.{ℕ, _+_, _*_}
+use mathlib.Core.List.{List}
+use lib.Dec.{ltb}
+use lib.ListN.{length, getD, take, drop}
+use Rattle.base.specs.Choice.{pick}
+use Rattle.base.specs.Standing.{standing, placeAfter}
+use Rattle.meaning.specs.Forest.{Forest, forest}
+use Rattle.meaning.specs.Sections.{Sheet}
+use Rattle.meaning.specs.declared.Step.{Step}
+
+-- the number of two bytes at x, the low one first
+unfoldable pub pairAt : List ℕ → ℕ → ℕ
+pairAt s x = getD s x 0 + 256 * getD s (x + 1) 0
+
+-- ---- labels
+
+-- the bytes of the label whose length byte stands at p
+unfoldable pub textAt : List ℕ → ℕ → List ℕ
+textAt s p = take (getD s p 0) (drop (p + 1) s)
+
+-- the place after that label; past the end there is none
+unfoldable pub afterLabel : List ℕ → ℕ → ℕ
+afterLabel s p = pick (ltb p (length s)) (p + 1 + getD s p 0) p
+
+-- n labels from the place p on
+unfoldable pub textsAt : List ℕ → ℕ → ℕ → List (List ℕ)
+textsAt s = standing (textAt s) (afterLabel s)
+
+-- ---- steps: parent, axis, label
+
+-- the step at p
+unfoldable pub stepAt : List ℕ → ℕ → Step
+stepAt s p = record { parent = getD s p 0; axis = getD s (p + 1) 0; label = getD s (p + 2) 0 }
+
+-- the place after it
+unfoldable pub afterStep : ℕ → ℕ
+afterStep p = p + 3
+
+-- n steps from the place p on
+unfoldable pub stepsAt : List ℕ → ℕ → ℕ → List Step
+stepsAt s = standing (stepAt s) afterStep
+
+-- ---- patterns: a step count and the steps
+
+-- the pattern at p
+unfoldable pub forestAt : List ℕ → ℕ → Forest
+forestAt s p = forest (stepsAt s (p + 1) (getD s p 0))
+
+-- the place after that pattern
+unfoldable pub afterPattern : List ℕ → ℕ → ℕ
+afterPattern s p = p + 1 + 3 * getD s p 0
+
+-- n patterns from the place p on
+unfoldable pub forestsAt : List ℕ → ℕ → ℕ → List Forest
+forestsAt s = standing (forestAt s) (afterPattern s)
+
+-- ---- a sheet: labels after their count, then patterns after theirs
+
+-- the place of the count of patterns
+unfoldable pub patternCountAt : List ℕ → ℕ
+patternCountAt s = placeAfter (afterLabel s) 1 (getD s 0 0)
+
+-- the sheet that stands in the bytes
+unfoldable pub sheetAt : List ℕ → Sheet
+sheetAt s = record { labels = textsAt s 1 (getD s 0 0); patterns = forestsAt s (patternCountAt s + 1) (getD s (patternCountAt s) 0) }

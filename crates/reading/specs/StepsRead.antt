@@ -1,0 +1,178 @@
+-- Steps judged by places are steps as the paper reads them: going up from the step just before meets a number exactly if
+-- that number is on the path upwards.
+use Prim.Native.Nat.{ℕ, zero, suc, _+_, _*_, _-_, _≤_, _<_}
+use mathlib.Core.Path.{_≡_, refl, sym, ap, _∙_, subst}
+use mathlib.Core.Bool.{Bool, true, false, _||_, false≢true}
+use mathlib.Core.List.{List, [], _∷_, _++_}
+use lib.Dec.{eqb, leb, ltb}
+use lib.ListN.{length, getD, drop}
+use native.Mathlib.Omega.{arith}
+use native.Mathlib.Numerals.{add-one}
+use borrow.Author.Tests.{eqb-true, eq-eqb, ne-eqb, ltb-true}
+use Rattle.base.specs.Bools.{both-ways}
+use Rattle.base.specs.Choice.{pick}
+use Rattle.base.specs.Lists.{some}
+use Rattle.base.specs.Standing.{placeAfter, standing, standing-last, length-standing, run-leads, run-keeps}
+use Rattle.base.specs.Loops.{run}
+use Rattle.base.specs.declared.Cur.{Cur}
+use Rattle.base.specs.declared.Cur.the-variants.{At}
+use Rattle.meaning.specs.Reader.{go-on, _>>=_, _>>_, give}
+use Rattle.meaning.specs.Sections.{upFrom, pathAfter, mayHang, aStep, steps}
+use Rattle.meaning.specs.declared.Step.{Step}
+use Rattle.reading.specs.Places.{stepAt, afterStep, stepsAt}
+use Rattle.reading.specs.Judging.{climbs, stepLabel, isSecondNear, stepPlace}
+use Rattle.reading.specs.Answer.{answer, answer-pick, then-answer, then-give, passed, passed-not, then-byte, then-unless, pick-not, two}
+
+-- equal either way round
+eqb-turned : (a b : ℕ) → eqb a b ≡ eqb b a
+eqb-turned a b = both-ways (eqb a b) (eqb b a) (λ e. eq-eqb b a (sym (eqb-true a b e))) (λ e. eq-eqb a b (sym (eqb-true b a e)))
+
+-- ---- paths upwards
+
+-- the path upwards from step c, where the steps stand from the place p on: c and the path from its parent; the root is 0
+pub data WayUp (s : List ℕ) (p : ℕ) : ℕ → List ℕ → Type 0 where
+  root : WayUp s p 0 (0 ∷ [])
+  above : {c : ℕ} {path : List ℕ} → (c ≡ 0 → ⊥) → WayUp s p (getD s (p + 3 * (c - 1)) 0) path → WayUp s p c (c ∷ path)
+
+module _ (s : List ℕ) (p : ℕ) where
+  -- climbing meets what is on the path
+  climbs-path : {c : ℕ} {path : List ℕ} (q n : ℕ) → WayUp s p c path → length path ≤ n → climbs s p q n c ≡ some (eqb q) path
+  unfolding climbs some pick
+  climbs-path q zero root h = absurd (omega arith)
+  climbs-path q zero (above z w) h = absurd (omega arith)
+  climbs-path q (suc n) root h = rw (eqb-turned 0 q) (go (eqb q 0))
+    where
+      go : (b : Bool) → pick b true false ≡ (b || false)
+      go true = refl
+      go false = refl
+  climbs-path q (suc n) (above {c = c} {path = path} z w) h = rw (climbs, ne-eqb c 0 z, eqb-turned c q) (go (eqb q c) (climbs-path q n w (omega arith)))
+    where
+      go : (b : Bool) → climbs s p q n (getD s (p + 3 * (c - 1)) 0) ≡ some (eqb q) path → pick b true (pick false false (climbs s p q n (getD s (p + 3 * (c - 1)) 0))) ≡ (b || some (eqb q) path)
+      go true e = refl
+      go false e = e
+
+  -- from a number on a path upwards on, it is the path from that number
+  path-from : {c : ℕ} {path : List ℕ} (q : ℕ) → WayUp s p c path → some (eqb q) path ≡ true → WayUp s p q (upFrom q path)
+  unfolding some upFrom pick
+  path-from q root h = go (eqb 0 q) refl
+    where
+      go : (b : Bool) → eqb 0 q ≡ b → WayUp s p q (pick b (0 ∷ []) [])
+      go true e = subst (λ (m : ℕ). WayUp s p m (0 ∷ [])) (eqb-true 0 q e) root
+      go false e = absurd (false≢true (rw (eqb-turned q 0 ∙ e) at h))
+  path-from q (above {c = c} {path = path} z w) h = go (eqb c q) refl (path-from q w)
+    where
+      go : (b : Bool) → eqb c q ≡ b → (some (eqb q) path ≡ true → WayUp s p q (upFrom q path)) → WayUp s p q (pick b (c ∷ path) (upFrom q path))
+      go true e later = subst (λ (m : ℕ). WayUp s p m (c ∷ path)) (eqb-true c q e) (above z w)
+      go false e later = later (rw (eqb-turned q c ∙ e) at h)
+
+-- what stands from a number on is no longer than the path
+length-upFrom : (q : ℕ) (path : List ℕ) → length (upFrom q path) ≤ length path
+unfolding upFrom pick
+length-upFrom q [] = omega arith
+length-upFrom q (k ∷ path) = go (eqb k q) (length-upFrom q path)
+  where
+    go : (b : Bool) → length (upFrom q path) ≤ length path → length (pick b (k ∷ path) (upFrom q path)) ≤ suc (length path)
+    go true h = omega arith
+    go false h = omega arith
+
+-- the path after one step more
+pathAfter-last : (k : ℕ) (path : List ℕ) (ss : List Step) (t : Step) → pathAfter k path (ss ++ (t ∷ [])) ≡ (k + length ss) ∷ upFrom (t .parent) (pathAfter k path ss)
+unfolding pathAfter
+pathAfter-last k path [] t = ap (λ (n : ℕ). n ∷ upFrom (t .parent) path) (omega arith)
+pathAfter-last k path (x ∷ ss) t = pathAfter-last (suc k) (k ∷ upFrom (x .parent) path) ss t ∙ ap (λ (n : ℕ). n ∷ upFrom (t .parent) (pathAfter (suc k) (k ∷ upFrom (x .parent) path) ss)) (omega arith)
+
+-- three bytes a step
+pub step-place : (p k : ℕ) → placeAfter afterStep p k ≡ p + 3 * k
+unfolding placeAfter afterStep
+step-place p zero = omega arith
+step-place p (suc k) = step-place (p + 3) k ∙ omega arith
+
+-- the place after step k + 1
+after-place : (p x k : ℕ) → x ≡ p + 3 * k → afterStep x ≡ p + 3 * (k + 1)
+unfolding afterStep
+after-place p x k h = omega arith
+
+module _ (s : List ℕ) (known p : ℕ) where
+  -- the path upwards from the last of the k steps that were read
+  pub record PathUp (k : ℕ) : Type 0 where
+    pub way : WayUp s p k (pathAfter 1 (0 ∷ []) (stepsAt s p k))
+    pub short : length (pathAfter 1 (0 ∷ []) (stepsAt s p k)) ≤ k + 1
+
+  -- before the first step it is the root alone
+  start : PathUp 0
+  unfolding stepsAt standing pathAfter
+  start = record { way = root; short = omega arith }
+
+  -- a step may hang where climbing leads
+  may-hang : (k q : ℕ) → PathUp k → mayHang (stepsAt s p k) q ≡ climbs s p q (k + 1) k
+  unfolding mayHang
+  may-hang k q w = sym (climbs-path s p q (k + 1) (w .way) (w .short))
+
+  -- a step that was judged makes the path longer
+  next : (k x : ℕ) → x ≡ p + 3 * k → PathUp k → climbs s p (getD s x 0) (k + 1) k ≡ true → PathUp (k + 1)
+  unfolding stepsAt stepAt
+  next k x h w m = record { way = rw longer (above {c = k + 1} (λ z. absurd (omega arith)) up); short = rw longer (omega (arith, length-upFrom (getD s x 0) (pathAfter 1 (0 ∷ []) (stepsAt s p k)), w .short)) }
+    where
+      there : placeAfter afterStep p k ≡ x
+      there = step-place p k ∙ sym h
+
+      longer : pathAfter 1 (0 ∷ []) (stepsAt s p (k + 1)) ≡ (k + 1) ∷ upFrom (getD s x 0) (pathAfter 1 (0 ∷ []) (stepsAt s p k))
+      longer =
+          let all : stepsAt s p k ++ (stepAt s x ∷ []) ≡ stepsAt s p (k + 1) = rw (add-one k) (rw there at (standing-last (stepAt s) afterStep p k)) in
+          let long : 1 + length (stepsAt s p k) ≡ k + 1 = omega (arith, length-standing (stepAt s) afterStep p k) in
+          sym (ap (pathAfter 1 (0 ∷ [])) all) ∙ pathAfter-last 1 (0 ∷ []) (stepsAt s p k) (stepAt s x) ∙ ap (λ (n : ℕ). n ∷ upFrom (getD s x 0) (pathAfter 1 (0 ∷ []) (stepsAt s p k))) long
+
+      up : WayUp s p (getD s (p + 3 * (k + 1 - 1)) 0) (upFrom (getD s x 0) (pathAfter 1 (0 ∷ []) (stepsAt s p k)))
+      up =
+          let e : x ≡ p + 3 * (k + 1 - 1) = omega arith in
+          rw (← e) (path-from s p (getD s x 0) (w .way) (sym (climbs-path s p (getD s x 0) (k + 1) (w .way) (w .short)) ∙ m))
+
+  -- a step at a place, beside the k steps before it
+  pub step-read : (k x : ℕ) → PathUp k → aStep known (stepsAt s p k) (drop x s) ≡ answer s (stepAt s x) (stepPlace s known p k x)
+  unfolding aStep stepPlace stepLabel isSecondNear _>>=_ _>>_ give answer stepAt
+  step-read k x w = simp (may-hang k (getD s x 0) w, answer-pick, then-byte, then-unless, pick-not, two)
+
+  -- a step that was read: the next place, its parent was met, and it ends within the bytes
+  step-leads : (k x y : ℕ) → stepPlace s known p k x ≡ At y → (y ≡ afterStep x) × (climbs s p (getD s x 0) (k + 1) k ≡ true) × (y ≤ length s)
+  unfolding stepPlace stepLabel afterStep
+  step-leads k x y h =
+      let a = passed (ltb x (length s)) _ 1 y h in
+      let b = passed (climbs s p (getD s x 0) (k + 1) k) _ 6 y (a .1) in
+      let c = passed (ltb (x + 1) (length s)) _ 1 y (b .1) in
+      let d = passed (leb (getD s (x + 1) 0) 1) _ 7 y (c .1) in
+      let e = passed-not (isSecondNear s p k (getD s x 0) (getD s (x + 1) 0)) _ 9 y (d .1) in
+      let f = passed (ltb (x + 2) (length s)) _ 1 y (e .1) in
+      let g = passed (leb (getD s (x + 2) 0) known) _ 8 y (f .1) in
+      let q : y ≡ x + 2 + 1 = cc (g .1) in
+      let r : x + 2 < length s = ltb-true (x + 2) (length s) (f .0) in
+      (omega arith, b .0, omega arith)
+
+  -- n steps from a place on, after the k steps before it
+  steps-from : (n k x : ℕ) → x ≡ p + 3 * k → PathUp k → steps known n (stepsAt s p k) (drop x s) ≡ answer s (stepsAt s x n) (run (stepPlace s known p) n k x)
+  unfolding steps stepsAt standing run _>>=_ give answer
+  steps-from zero k x h w = refl
+  steps-from (suc n) k x h w = rw (step-read k x w) (then-answer s (stepAt s x) (stepsAt s x (suc n)) (stepPlace s known p k x) _ (λ y. run (stepPlace s known p) n (k + 1) y) (λ y e. turn y (step-leads k x y e) (steps-from n (k + 1) y)))
+    where
+      one-more : stepsAt s p k ++ (stepAt s x ∷ []) ≡ stepsAt s p (k + 1)
+      one-more = rw (add-one k) (rw (step-place p k ∙ sym h) at (standing-last (stepAt s) afterStep p k))
+
+      turn : (y : ℕ) → (y ≡ afterStep x) × (climbs s p (getD s x 0) (k + 1) k ≡ true) × (y ≤ length s)
+          → (y ≡ p + 3 * (k + 1) → PathUp (k + 1) → steps known n (stepsAt s p (k + 1)) (drop y s) ≡ answer s (stepsAt s y n) (run (stepPlace s known p) n (k + 1) y))
+          → go-on (steps known n (stepsAt s p k ++ (stepAt s x ∷ [])) (drop y s)) (λ later. give (stepAt s x ∷ later)) ≡ answer s (stepsAt s x (suc n)) (run (stepPlace s known p) n (k + 1) y)
+      turn y e later =
+          let there : y ≡ p + 3 * (k + 1) = e .0 ∙ after-place p x k h in
+          let rest : Cur = run (stepPlace s known p) n (k + 1) y in
+          rw (one-more, later there (next k x h w (e .1))) (then-give s (stepsAt s y n) rest (λ l. stepAt s x ∷ l) ∙ ap (λ (q : ℕ). answer s (stepAt s x ∷ stepsAt s q n) rest) (e .0))
+
+  -- the n steps from the place p on are steps of a pattern
+  pub steps-read : (n : ℕ) → steps known n [] (drop p s) ≡ answer s (stepsAt s p n) (run (stepPlace s known p) n 0 p)
+  unfolding stepsAt standing
+  steps-read n = steps-from n 0 p (omega arith) start
+
+  -- and end three bytes a step further
+  pub steps-lead : (n y : ℕ) → run (stepPlace s known p) n 0 p ≡ At y → y ≡ p + 3 * n
+  steps-lead n y h = run-leads (stepPlace s known p) afterStep (λ k x z e. step-leads k x z e .0) n 0 p y h ∙ step-place p n
+
+  -- so all of them end within the bytes
+  pub steps-within : (n y : ℕ) → p ≤ length s → run (stepPlace s known p) n 0 p ≡ At y → y ≤ length s
+  steps-within n y g h = run-keeps (stepPlace s known p) (λ z. z ≤ length s) (λ k x z e. step-leads k x z e .2) n 0 p y g h

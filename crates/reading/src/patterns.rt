@@ -1,0 +1,55 @@
+// A pattern, and a section of patterns.
+use crate::byte_at;
+use crate::steps::steps;
+use base::Cur;
+ghost use mathlib.Core.Path.{_≡_};
+ghost use Rattle.base.specs.Loops.{run};
+ghost use Rattle.reading.specs.Judging.{patternPlace, nextPattern, patternsPlace};
+
+// A pattern at x: a step count and the steps.
+pub fn pattern(s: &[u8], known: usize, x: usize) -> Cur
+    ensures { λ r. ⌜ r ≡ patternPlace (now (s .entry)) known x ⌝ }
+{
+    if s.len() <= x {
+        return Cur::No(1);
+    }
+    let n = byte_at(s, x);
+    if 16 < n {
+        return Cur::No(5);
+    }
+    steps(s, known, x + 1, n)
+}
+
+// The n patterns from the place p on.
+fn patterns_from(s: &[u8], known: usize, p: usize, n: usize) -> Cur
+    ensures { λ r. ⌜ r ≡ run (nextPattern (now (s .entry)) known) n 0 p ⌝ }
+{
+    let mut i = 0;
+    let mut x = p;
+    while i < n {
+        match pattern(s, known, x) {
+            Cur::At(y) => {
+                x = y;
+            }
+            Cur::No(m) => {
+                return Cur::No(m);
+            }
+        }
+        i += 1;
+    }
+    Cur::At(x)
+}
+
+// The patterns of a sheet, from their count on.
+pub fn patterns(s: &[u8], known: usize, x: usize) -> Cur
+    ensures { λ r. ⌜ r ≡ patternsPlace (now (s .entry)) known x ⌝ }
+{
+    if s.len() <= x {
+        return Cur::No(1);
+    }
+    let n = byte_at(s, x);
+    if 64 < n {
+        return Cur::No(5);
+    }
+    patterns_from(s, known, x + 1, n)
+}

@@ -1,0 +1,22 @@
+-- `tables::enough` meets its contract.
+use denote.Ref.{now}
+use Prim.Native.Nat.{ℕ, _-_}
+use lib.ListN.{length}
+use lib.Dec.{leb}
+use mathlib.Core.Path.{_≡_, ap}
+use native.Mathlib.Omega.{arith}
+use borrow.Author.Needs.{needs}
+use Rattle.tables.proofs.enough.Statement.{statement}
+use Rattle.tables.proofs.enough.Tie as tie
+
+returns : tie.Need-returns
+returns c = let none-left : _≡_ {A = ℕ} 0 (length (now (c .before .args .t)) - (c .before .args .x)) = omega arith in ap (leb (c .before .args .n)) none-left
+
+sub-result : tie.Need-sub-result
+sub-result c = search needs
+
+returns-2 : tie.Need-returns-2
+returns-2 c = search needs
+
+pub enough-spec : {M : Type 1} → statement M
+enough-spec = tie.close (tie.spec returns sub-result returns-2)

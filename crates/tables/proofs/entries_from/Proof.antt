@@ -1,0 +1,72 @@
+-- `tables::entries_from` meets its contract.
+-- The invariant: what is left from here gives what all gives from the start; the measure: what is left.
+use mathlib.Core.Path.{_≡_, sym}
+use Prim.Native.Nat.{_-_}
+use denote.Ref.{now}
+use Rattle.base.specs.Loops.{run, run-starts, run-ends}
+use Rattle.reading.specs.Turns.{reads-on, reads-fault}
+use Rattle.tables.specs.Judging.{entryPlace}
+use borrow.Author.Needs.{needs}
+use native.Mathlib.Omega.{arith}
+use Rattle.tables.proofs.entries_from.Statement.{statement}
+use Rattle.tables.proofs.entries_from.Tie as tie
+
+abbrev Inv-loop : tie.InvT-loop
+Inv-loop t known p n i₀ x₀ i x = run (entryPlace t known) (n - i) i x ≡ run (entryPlace t known) n 0 p
+
+abbrev μ-loop : tie.MeasureT-loop
+μ-loop t known p n i₀ x₀ i x = n - i
+
+loop-holds : tie.Need-loop-holds Inv-loop μ-loop
+loop-holds c =
+    let a = c .before .args in
+    sym (run-starts (entryPlace (now (a .t)) (a .known)) (a .n) 0 (a .p) (run (entryPlace (now (a .t)) (a .known)) (a .n) 0 (a .p)))
+
+entry-requires : tie.Need-entry-requires Inv-loop μ-loop
+entry-requires c κs = search needs
+
+enum-known-y : tie.Need-enum-known-y Inv-loop μ-loop
+enum-known-y c = search needs
+
+enum-known-m : tie.Need-enum-known-m Inv-loop μ-loop
+enum-known-m c = search needs
+
+returns : tie.Need-returns Inv-loop μ-loop
+returns c =
+    let a = c .before .before .before .before .before .before .before .args in
+    let l = c .before .before .before .before .before .loop in
+    reads-fault (entryPlace (now (a .t)) (a .known)) (a .n) (l .i) (l .x) _ (c .before .before .before .entry .result) (c .before .m .given .0 .0) (omega arith) (c .before .before .before .entry .ensures) (c .before .m .given .1) (l .inv)
+
+add-i : tie.Need-add-i Inv-loop μ-loop
+add-i c = omega arith
+
+loop-less : tie.Need-loop-less Inv-loop μ-loop
+loop-less c = omega arith
+
+loop-again : tie.Need-loop-again Inv-loop μ-loop
+loop-again c =
+    let a = c .before .before .before .before .before .before .before .args in
+    let l = c .before .before .before .before .before .loop in
+    reads-on (entryPlace (now (a .t)) (a .known)) (a .n) (l .i) (l .x) _ (c .before .before .before .entry .result) (c .before .y .given .0 .0) (omega arith) (c .before .before .before .entry .ensures) (c .before .y .given .1) (l .inv)
+
+returns-2 : tie.Need-returns-2 Inv-loop μ-loop
+returns-2 c =
+    let a = c .before .before .before .args in
+    let l = c .before .loop in
+    run-ends (entryPlace (now (a .t)) (a .known)) (a .n) (l .i) (l .x) _ (omega arith) (l .inv)
+
+pub entries-from-spec : {M : Type 1} → statement M
+entries-from-spec =
+    tie.close
+    (tie.spec
+    Inv-loop
+    μ-loop
+    loop-holds
+    entry-requires
+    enum-known-y
+    enum-known-m
+    returns
+    add-i
+    loop-less
+    loop-again
+    returns-2)

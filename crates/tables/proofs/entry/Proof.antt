@@ -1,0 +1,34 @@
+-- `tables::entry` meets its contract.
+use mathlib.Core.Path.{sym, _∙_}
+use denote.Ref.{now}
+use Prim.Native.Nat.{_-_}
+use lib.ListN.{length}
+use borrow.Author.Tests.{leb-true}
+use Rattle.tables.specs.Judging.{entryPlace}
+use Rattle.base.specs.Choice.{picks}
+use native.Mathlib.Omega.{arith}
+use borrow.Author.Needs.{needs}
+use Rattle.tables.proofs.entry.Statement.{statement}
+use Rattle.tables.proofs.entry.Tie as tie
+
+enough-requires : tie.Need-enough-requires
+enough-requires c κs = search needs
+
+add-pattern : tie.Need-add-pattern
+add-pattern c =
+    let a = c .before .before .before .args in
+    omega (arith, leb-true 8 (length (now (a .t)) - (a .x)) (sym (c .before .enough .ensures) ∙ c .if1 .taken))
+
+pattern-requires : tie.Need-pattern-requires
+pattern-requires c κs = search needs
+
+returns : tie.Need-returns
+unfolding entryPlace
+returns c = rw (← (c .before .before .enough .ensures)) (search picks depth 15)
+
+returns-2 : tie.Need-returns-2
+unfolding entryPlace
+returns-2 c = rw (← (c .before .enough .ensures)) (search picks depth 15)
+
+pub entry-spec : {M : Type 1} → statement M
+entry-spec = tie.close (tie.spec enough-requires add-pattern pattern-requires returns returns-2)

@@ -1,0 +1,46 @@
+-- `tables::entry_at` meets its contract.
+use native.Mathlib.Omega.{arith}
+use Prim.Native.Nat.{_+_}
+use denote.Ref.{now}
+use Rattle.patterns.specs.TakenRead.{pattern-past}
+use Rattle.tables.specs.Judging.{entryAt}
+use borrow.Author.Needs.{needs}
+use Rattle.tables.proofs.entry_at.Statement.{statement}
+use Rattle.tables.proofs.entry_at.Tie as tie
+
+members-at-requires : tie.Need-members-at-requires
+members-at-requires c κs = search needs
+
+pattern-at-requires : tie.Need-pattern-at-requires
+pattern-at-requires c κs = search needs
+
+returns : tie.Need-returns
+unfolding entryAt
+returns c =
+    let a = c .before .before .before .before .args in
+    rw (
+      ← (pattern-past (now (a .t)) (a .x) ((a .x) + 8) (omega arith) (omega arith)),
+      ← (c .before .before .members-at .ensures),
+      ← (c .pattern-at .ensures),
+    )
+
+add-pattern-at : tie.Need-add-pattern-at
+add-pattern-at c = search needs
+
+pattern-at-requires-2 : tie.Need-pattern-at-requires-2
+pattern-at-requires-2 c κs = search needs
+
+returns-2 : tie.Need-returns-2
+unfolding entryAt
+returns-2 c = rw (← (c .before .before .members-at .ensures), ← (c .pattern-at2 .ensures))
+
+pub entry-at-spec : {M : Type 1} → statement M
+entry-at-spec =
+    tie.close
+    (tie.spec
+    members-at-requires
+    pattern-at-requires
+    returns
+    add-pattern-at
+    pattern-at-requires-2
+    returns-2)

@@ -1,0 +1,64 @@
+-- `tables::table` meets its contract.
+use Rattle.base.specs.Loops.{andThen}
+use Rattle.tables.specs.Judging.{tablePlace}
+use Rattle.base.specs.Choice.{picks}
+use borrow.Author.Needs.{needs}
+use Rattle.tables.proofs.table.Statement.{statement}
+use Rattle.tables.proofs.table.Tie as tie
+
+returns : tie.Need-returns
+unfolding tablePlace
+returns c = search picks depth 15
+
+byte-at-requires : tie.Need-byte-at-requires
+byte-at-requires c κs = search needs
+
+returns-2 : tie.Need-returns-2
+unfolding tablePlace
+returns-2 c = rw (← (c .before .byte-at .ensures .0)) (search picks depth 15)
+
+entries-from-requires : tie.Need-entries-from-requires
+entries-from-requires c κs = search needs
+
+enum-known-y : tie.Need-enum-known-y
+enum-known-y c = search needs
+
+end-requires : tie.Need-end-requires
+end-requires c κs = search needs
+
+enum-known-m : tie.Need-enum-known-m
+enum-known-m c = search needs
+
+returns-3 : tie.Need-returns-3
+unfolding tablePlace andThen
+returns-3 c =
+    rw (
+      ← (c .before .before .before .before .before .before .byte-at .ensures .0),
+      ← (c .before .before .before .before .entries-from .ensures),
+      c .before .before .y .given .1,
+    )
+    (search picks depth 15)
+
+returns-4 : tie.Need-returns-4
+unfolding tablePlace andThen
+returns-4 c =
+    rw (
+      ← (c .before .before .before .before .before .byte-at .ensures .0),
+      ← (c .before .before .before .entries-from .ensures),
+      c .before .m .given .1,
+    )
+    (search picks depth 15)
+
+pub table-spec : {M : Type 1} → statement M
+table-spec =
+    tie.close
+    (tie.spec
+    returns
+    byte-at-requires
+    returns-2
+    entries-from-requires
+    enum-known-y
+    end-requires
+    enum-known-m
+    returns-3
+    returns-4)

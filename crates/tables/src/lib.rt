@@ -1,0 +1,159 @@
+// Reading the bytes of a table beside a sheet: entries are judged by places in the lent bytes (specs/Judging.antt), and
+// what that gives is what a table means. Entries by value from their places.
+use base::Cur;
+use patterns::after_pattern;
+use patterns::pattern_at;
+use reading::byte_at;
+use reading::end;
+use reading::pair_at;
+use reading::patterns::pattern;
+use reading::sheet;
+use shapes::Entry;
+ghost use mathlib.Core.Path.{_≡_};
+ghost use Prim.Native.Nat.{_+_, _*_, _-_, _<_};
+ghost use lib.Dec.{leb};
+ghost use lib.ListN.{length};
+ghost use Rattle.base.specs.Loops.{run};
+ghost use Rattle.reading.specs.NumberRead.{numberIn};
+ghost use Rattle.tables.specs.Judging.{entryPlace, tablePlace, bothPlace, tableBytesNumber, entryAt, entryPlaces, entriesOf};
+
+// How many entries a table has, and the place of each; behind those, the places go on in the same way.
+pub struct Entries {
+    pub count: usize,
+    pub places: [usize; 64],
+}
+
+// There are n bytes from x on.
+fn enough(t: &[u8], x: usize, n: usize) -> bool
+    ensures { λ r. ⌜ r ≡ leb n (length (now (t .entry)) - x) ⌝ }
+{
+    if t.len() <= x {
+        return n <= 0;
+    }
+    n <= t.len() - x
+}
+
+// The members of the entry at x: eight bytes, the low one first.
+fn members_at(t: &[u8], x: usize) -> u64
+    ensures { λ r. ⌜ r ≡ numberIn (now (t .entry)) x 8 ⌝ }
+{
+    if t.len() <= x {
+        return 0;
+    }
+    let a = pair_at(t, x) as u64;
+    let b = pair_at(t, x + 2) as u64;
+    let c = pair_at(t, x + 4) as u64;
+    let d = pair_at(t, x + 6) as u64;
+    a + 65536 * (b + 65536 * (c + 65536 * d))
+}
+
+// An entry at x, with so many labels.
+fn entry(t: &[u8], known: usize, i: usize, x: usize) -> Cur
+    ensures { λ r. ⌜ r ≡ entryPlace (now (t .entry)) known i x ⌝ }
+{
+    if enough(t, x, 8) {
+        return pattern(t, known, x + 8);
+    }
+    Cur::No(1)
+}
+
+// The n entries from the place p on, with so many labels.
+fn entries_from(t: &[u8], known: usize, p: usize, n: usize) -> Cur
+    ensures { λ r. ⌜ r ≡ run (entryPlace (now (t .entry)) known) n 0 p ⌝ }
+{
+    let mut i = 0;
+    let mut x = p;
+    while i < n {
+        match entry(t, known, i, x) {
+            Cur::At(y) => {
+                x = y;
+            }
+            Cur::No(m) => {
+                return Cur::No(m);
+            }
+        }
+        i += 1;
+    }
+    Cur::At(x)
+}
+
+// Where a table ends, with so many labels, or its first fault.
+fn table(t: &[u8], known: usize) -> Cur
+    ensures { λ r. ⌜ r ≡ tablePlace (now (t .entry)) known ⌝ }
+{
+    if t.len() <= 0 {
+        return Cur::No(1);
+    }
+    let n = byte_at(t, 0);
+    if 64 < n {
+        return Cur::No(5);
+    }
+    match entries_from(t, known, 1, n) {
+        Cur::At(y) => end(t, y),
+        Cur::No(m) => Cur::No(m),
+    }
+}
+
+// The sheet first, then the table.
+pub fn both(s: &[u8], t: &[u8]) -> Cur
+    ensures { λ r. ⌜ r ≡ bothPlace (now (s .entry)) (now (t .entry)) ⌝ }
+{
+    match sheet(s) {
+        Cur::At(x) => table(t, byte_at(s, 0)),
+        Cur::No(m) => Cur::No(m),
+    }
+}
+
+// The number of a table's bytes beside a sheet: 0 where both are sound, whether the table is fair aside.
+pub fn table_bytes_number(s: &[u8], t: &[u8]) -> u8
+    ensures { λ r. ⌜ r ≡ tableBytesNumber (now (s .entry)) (now (t .entry)) ⌝ }
+{
+    match both(s, t) {
+        Cur::At(x) => 0,
+        Cur::No(m) => m,
+    }
+}
+
+// The entry at x by value.
+pub fn entry_at(t: &[u8], x: usize) -> Entry
+    ensures { λ r. ⌜ r ≡ entryAt (now (t .entry)) x ⌝ }
+{
+    let members = members_at(t, x);
+    if t.len() <= x {
+        return Entry {
+            members,
+            pattern: pattern_at(t, x),
+        };
+    }
+    Entry {
+        members,
+        pattern: pattern_at(t, x + 8),
+    }
+}
+
+// The places of the entries of a table.
+fn entry_places(t: &[u8]) -> [usize; 64]
+    ensures { λ r. ⌜ r ≡ entryPlaces (now (t .entry)) 1 64 ⌝ }
+{
+    let mut places = [0; 64];
+    let mut i = 0;
+    let mut x = 1;
+    while i < 64 {
+        places[i] = x;
+        x = after_pattern(t, x + 8);
+        i += 1;
+    }
+    places
+}
+
+// The entries of a table.
+pub fn entries_in(t: &[u8]) -> Entries
+    ensures { λ r. ⌜ r ≡ entriesOf (now (t .entry)) ⌝ }
+{
+    let places = entry_places(t);
+    let n = byte_at(t, 0);
+    if n <= 64 {
+        return Entries { count: n, places };
+    }
+    Entries { count: 0, places }
+}
