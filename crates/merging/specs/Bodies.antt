@@ -1,9 +1,9 @@
 -- The body of a pair of steps, and the table that keeps each body once.
-use Prim.Native.Nat.{ℕ, zero, suc, _+_, _*_, _-_, _≤_, _<_}
-use mathlib.Core.Path.{_≡_, refl, sym, _∙_, ap, subst}
+use Prim.Native.Nat.{ℕ, _≤_}
+use mathlib.Core.Path.{_≡_, refl, sym, _∙_, ap}
 use mathlib.Core.Logic.{_⊎_, inl, inr}
-use mathlib.Core.Bool.{Bool, true, false, _&&_, _||_}
-use mathlib.Core.List.{List, [], _∷_, _++_}
+use mathlib.Core.Bool.{Bool, true, false, _&&_}
+use mathlib.Core.List.{List, []}
 use native.Mathlib.Omega.{arith}
 use lib.Dec.{eqb}
 use lib.ListN.{length, getD, set, replicate, length-set, length-replicate, getD-replicate}
@@ -11,18 +11,17 @@ use lib.Seq.{getD-set-same, getD-set-other}
 use borrow.Author.Tests.{eqb-true, eqb-false}
 use Rattle.base.specs.Choice.{pick}
 use Rattle.base.specs.Bools.{true-or-false}
-use Rattle.meaning.specs.Forest.{near, axisOf, isNear, Forest, none, step}
 use Rattle.meaning.specs.Satisfying.{anyOrSame}
 use Rattle.meaning.specs.Covering.{stepAt, lays}
-use Rattle.meaning.specs.Merging.{joined, Building, nothing, Body, commonLabel, bodyOf, meet, meetAt, across, through}
+use Rattle.meaning.specs.Merging.{joined, Building, nothing, Body, commonLabel, bodyOf, meet, meetAt, through}
 use Rattle.meaning.specs.declared.Step.{Step}
-use Rattle.shapes.specs.Shapes.{patternOf, stepsIn, SoundPattern}
+use Rattle.shapes.specs.Shapes.{patternOf, stepsIn}
 use Rattle.shapes.specs.declared.Pattern.{Pattern}
 use Rattle.covering.specs.Questions.{childrenOf, childrenLie, liesAt}
 use Rattle.covering.specs.Notes.{Noted, cellOf}
 use Rattle.merging.specs.declared.Marked.{Marked}
-use Rattle.merging.specs.Branches.{branchesOf, joined-branches, buildingAt}
-use Rattle.merging.specs.Offers.{buildingOf, Built, bodyIn, IsBody}
+use Rattle.merging.specs.Branches.{joined-branches, buildingAt}
+use Rattle.merging.specs.Offers.{buildingOf, Built}
 use Rattle.merging.specs.Packing.{Packed}
 
 -- the body of step v of p at step w of q

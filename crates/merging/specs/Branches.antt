@@ -1,13 +1,13 @@
 -- A pattern as the list of its root branches: what is kept at a pair, joined.
-use Prim.Native.Nat.{ℕ, zero, suc, _+_, _≤_, _<_}
+use Prim.Native.Nat.{ℕ, suc, _+_}
 use mathlib.Core.Path.{_≡_, refl, sym, _∙_, ap}
 use mathlib.Core.Bool.{Bool, true, false, not, _&&_, _||_}
 use mathlib.Core.List.{List, [], _∷_, _++_, append-assoc}
 use native.Mathlib.Omega.{arith}
-use lib.ListN.{length, length-append}
+use lib.ListN.{length}
 use Rattle.base.specs.Choice.{pick}
 use Rattle.base.specs.Lists.{some, keep, total}
-use Rattle.meaning.specs.Forest.{Axis, near, far, Forest, none, step, size, stepsFrom, stepsOf, childrenIn, forest}
+use Rattle.meaning.specs.Forest.{Axis, near, far, Forest, none, step, size, stepsFrom, stepsOf, forest}
 use Rattle.meaning.specs.Covering.{finds, fitsAt, lays, covers}
 use Rattle.meaning.specs.Merging.{Branch, alone, joined, branchSize, laidOn, staysBeside, Building}
 use Rattle.meaning.specs.declared.Step.{Step}
@@ -35,30 +35,36 @@ branches-size f = sym (joined-size (branchesOf f)) ∙ ap size (joined-branches 
 
 -- ---- one forest after another, below the same parent
 
+-- the second forest after the first
 unfoldable pub beside : Forest → Forest → Forest
 beside none g = g
 beside (step a l kids later) g = step a l kids (beside later g)
 
+-- its branches are those of both
 pub branches-beside : (f g : Forest) → branchesOf (beside f g) ≡ branchesOf f ++ branchesOf g
 unfolding beside branchesOf
 branches-beside none g = refl
 branches-beside (step a l kids later) g = ap {B = List Branch} (λ bs. record { axis = a; label = l; kids = kids } ∷ bs) (branches-beside later g)
 
+-- nothing after a forest changes nothing
 pub beside-none : (f : Forest) → beside f none ≡ f
 unfolding beside
 beside-none none = refl
 beside-none (step a l kids later) = ap (step a l kids) (beside-none later)
 
+-- of three it does not matter which two come first
 pub beside-beside : (f g h : Forest) → beside (beside f g) h ≡ beside f (beside g h)
 unfolding beside
 beside-beside none g h = refl
 beside-beside (step a l kids later) g h = ap (step a l kids) (beside-beside later g h)
 
+-- it has the steps of both
 pub size-beside : (f g : Forest) → size (beside f g) ≡ size f + size g
 unfolding beside size
 size-beside none g = omega arith
 size-beside (step a l kids later) g = omega (arith, size-beside later g)
 
+-- its steps are those of the first, then those of the second
 steps-beside : (p k : ℕ) (f g : Forest) → stepsFrom p k (beside f g) ≡ stepsFrom p k f ++ stepsFrom p (k + size f) g
 unfolding beside stepsFrom size
 steps-beside p k none g = ap (λ (n : ℕ). stepsFrom p n g) (omega arith)
@@ -66,12 +72,14 @@ steps-beside p k (step a l kids later) g =
     let same : stepsFrom p (suc k + size kids + size later) g ≡ stepsFrom p (k + suc (size kids + size later)) g = ap (λ (n : ℕ). stepsFrom p n g) (omega arith) in
     rw (steps-beside p (suc k + size kids) later g, same, append-assoc)
 
+-- so they are written after one another
 steps-after : (f g : Forest) (ss : List Step) (n : ℕ) → stepsOf f ≡ ss → n ≡ size f → ss ++ stepsFrom 0 (suc n) g ≡ stepsOf (beside f g)
 unfolding stepsOf
 steps-after f g ss n e h =
     let m : suc n ≡ 1 + size f = omega arith in
     rw (← e, m) (sym (steps-beside 0 1 f g))
 
+-- the child steps of the root are the pattern
 pub root-children : (c : Pattern) → childrenOf (stepsIn c) 0 ≡ patternOf c
 unfolding patternOf childrenOf forest
 root-children c = refl
@@ -95,18 +103,22 @@ firstBranch (step a l kids later) = record { axis = a; label = l; kids = kids }
 unfoldable pub buildingAt : Forest → Bool → Building
 buildingAt f clipped = record { kept = branchesOf f; clipped = clipped }
 
+-- of three tests it does not matter which two come first
 or-split : (a b c : Bool) → (a || (b || c)) ≡ ((a || b) || c)
 or-split true b c = refl
 or-split false b c = refl
 
+-- a test and true
 and-true : (a : Bool) → (a && true) ≡ a
 and-true true = refl
 and-true false = refl
 
+-- a test or false
 or-false : (a : Bool) → (a || false) ≡ a
 or-false true = refl
 or-false false = refl
 
+-- a place is found in a forest exactly if it is found in one of its branches
 finds-some : (x : Axis) (passes : Axis → ℕ → Forest → Bool) (f : Forest)
     → some (λ k. finds x passes (alone k)) (branchesOf f) ≡ finds x passes f
 unfolding some branchesOf finds alone
@@ -117,6 +129,7 @@ finds-some far passes (step y m kids later) =
     rw (or-false (finds far passes kids), finds-some far passes later)
     (sym (or-split (passes y m kids) (finds far passes kids) (finds far passes later)))
 
+-- tests that agree hold of the same lists
 some-same : (p q : Branch → Bool) (ks : List Branch) → ((k : Branch) → p k ≡ q k) → some p ks ≡ some q ks
 unfolding some
 some-same p q [] h = refl

@@ -1,15 +1,15 @@
 -- The candidate of a pair, made of its body, and what is built after it is offered.
-use Prim.Native.Nat.{ℕ, zero, suc, _+_, _≤_, _<_}
+use Prim.Native.Nat.{ℕ, _≤_}
 use mathlib.Core.Path.{_≡_, refl, sym, _∙_, ap, subst}
-use mathlib.Core.Bool.{Bool, true, false, _||_}
-use mathlib.Core.List.{List, [], _∷_, _++_}
+use mathlib.Core.Bool.{Bool, _||_}
+use mathlib.Core.List.{List, []}
 use native.Mathlib.Omega.{arith}
 use Rattle.base.specs.Choice.{pick}
-use Rattle.meaning.specs.Forest.{Axis, near, far, axisOf, axisNumber, Forest, none, step, size, stepsFrom, stepsOf, childrenIn}
+use Rattle.meaning.specs.Forest.{near, far, axisOf, Forest, none, step, size, stepsFrom, stepsOf}
 use Rattle.meaning.specs.Covering.{stepAt}
-use Rattle.meaning.specs.Merging.{Branch, alone, Building, Body, offer, meet}
+use Rattle.meaning.specs.Merging.{Branch, alone, Body, offer, meet}
 use Rattle.meaning.specs.declared.Step.{Step}
-use Rattle.shapes.specs.Shapes.{patternOf, stepsIn, SoundPattern}
+use Rattle.shapes.specs.Shapes.{patternOf, stepsIn}
 use Rattle.shapes.specs.declared.Pattern.{Pattern}
 use Rattle.laws.specs.Offering.{candidateOf}
 use Rattle.covering.specs.Preorder.{Outside, read-back}
@@ -27,6 +27,7 @@ body-in m body h =
     let same : firstBranch (patternOf (m .pattern)) ≡ record { axis = near; label = body .label; kids = body .kids } = ap firstBranch (h .stands .pattern) in
     λ i. record { label = same i .label; kids = same i .kids; clipped = h .mark i }
 
+-- it is the body of itself
 pub body-of-itself : (m : Marked) (body : Body) → IsBody m body → IsBody m (bodyIn m)
 body-of-itself m body h = subst (IsBody m) (sym (body-in m body h)) h
 
@@ -36,10 +37,12 @@ unfolding size
 body-count m body h = omega (arith, count-size (m .pattern) (h .stands .sound) (length-steps (m .pattern) (h .stands .sound)), ap size (h .stands .pattern))
 
 module _ (l : ℕ) (kids : Forest) where
+  -- the first step's label
   first-label : stepAt (stepsOf (step near l kids none)) 1 .label ≡ l
   unfolding stepAt stepsOf stepsFrom
   first-label = refl
 
+  -- and what is below it
   first-kids : childrenOf (stepsOf (step near l kids none)) 1 ≡ kids
   unfolding childrenOf stepsOf stepsFrom Outside
   first-kids = read-back 1 2 kids [] (omega arith) tt
@@ -60,6 +63,7 @@ pub only-branch : (c : Pattern) (b : Branch) → Stands c (alone b) → IsBranch
 unfolding IsBranch firstBranch alone
 only-branch c b s = (s .sound, rw (s .pattern))
 
+-- the branch of a pattern with one
 first-alone : (x : Branch) → firstBranch (alone x) ≡ x
 unfolding firstBranch alone
 first-alone x = refl

@@ -1,21 +1,20 @@
 -- The steps below a step of a pattern, copied after other steps: they are the same forest, written there.
 use Prim.Native.Nat.{ℕ, zero, suc, _+_, _-_, _≤_, _<_}
 use mathlib.Core.Path.{_≡_, refl, sym, _∙_, ap}
-use mathlib.Core.Bool.{Bool, true, false}
+use mathlib.Core.Bool.{true}
 use mathlib.Core.List.{List, [], _∷_, _++_, append-assoc, append-nil}
 use native.Mathlib.Omega.{arith}
 use lib.Dec.{eqb, ltb}
-use lib.ListN.{length, drop, getD}
+use lib.ListN.{length}
 use borrow.Author.Tests.{eq-eqb, ne-eqb, lt-ltb, le-ltb}
 use Rattle.base.specs.Choice.{pick}
-use Rattle.meaning.specs.Forest.{Axis, axisOf, axisNumber, Forest, none, step, size, childrenIn, forest, stepsFrom, stepsOf}
+use Rattle.meaning.specs.Forest.{axisOf, axisNumber, Forest, none, step, size, childrenIn, forest, stepsFrom, stepsOf}
 use Rattle.meaning.specs.declared.Step.{Step}
 use Rattle.shapes.specs.Shapes.{patternOf, stepsIn, SoundPattern}
 use Rattle.shapes.specs.declared.Pattern.{Pattern}
 use Rattle.laws.specs.Bridge.{forest-stepsOf, length-stepsOf}
-use Rattle.covering.specs.Preorder.{Outside, written, read-back, steps-split, afterwards}
-use Rattle.covering.specs.Blocks.{Ends, Block, block-of}
-use Rattle.covering.specs.Questions.{childrenOf}
+use Rattle.covering.specs.Preorder.{written, read-back, steps-split, afterwards}
+use Rattle.covering.specs.Blocks.{Ends, Block}
 
 -- a pattern by value that holds these steps
 pub record Holds (p : Pattern) (ss : List Step) : Type 0 where
@@ -70,10 +69,12 @@ module _ (v n top : ℕ) where
   newParent : ℕ → ℕ
   newParent p = pick (eqb p v) top (p - v + n)
 
+  -- below a deeper step a parent moves by as much as all do
   deeper : (k : ℕ) → v < k → newParent k ≡ k - v + n
   unfolding newParent pick
   deeper k h = rw (ne-eqb k v (λ e. omega arith))
 
+  -- nothing is moved past the end of the block
   ended : (after : List Step) → Ends v after → movedBlock v n top after ≡ []
   unfolding Ends movedBlock pick
   ended [] e = refl

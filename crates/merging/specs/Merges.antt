@@ -1,8 +1,8 @@
 -- The merge of two patterns by value is one of them, or what is built at the pair of their roots.
-use mathlib.Core.Path.{_≡_, refl, sym, _∙_, ap}
+use mathlib.Core.Path.{_≡_, sym, _∙_, ap}
 use mathlib.Core.Bool.{Bool, true, false}
 use Rattle.base.specs.Choice.{pick}
-use Rattle.meaning.specs.Forest.{Forest}
+use Rattle.meaning.specs.Forest.{stepsOf}
 use Rattle.meaning.specs.Covering.{covers}
 use Rattle.meaning.specs.Merging.{joined, Building, nothing, through, Merge, mergeWithin, merge}
 use Rattle.shapes.specs.Shapes.{patternOf, stepsIn, SoundPattern}
@@ -10,7 +10,7 @@ use Rattle.shapes.specs.declared.Pattern.{Pattern}
 use Rattle.laws.specs.MergeSize.{merge-first, merge-second}
 use Rattle.covering.specs.Questions.{childrenOf}
 use Rattle.merging.specs.declared.Marked.{Marked}
-use Rattle.merging.specs.Branches.{branchesOf, joined-branches, buildingAt, root-children}
+use Rattle.merging.specs.Branches.{joined-branches, buildingAt, root-children}
 use Rattle.merging.specs.Offers.{buildingOf, Built}
 
 -- a value that is a merge
@@ -35,6 +35,7 @@ module _ (p q : Pattern) (first second : Bool) (said : first ≡ covers (pattern
         let e = merge-second 16 (patternOf p) (patternOf q) (sym said ∙ un) (sym said₂ ∙ t) in
         record { pattern = sym (ap (λ (m : Merge). m .pattern) e); mark = sym (ap (λ (m : Merge). m .clipped) e); sound = sound }
 
+    -- where neither covers, the merge is built
     built-merge : second ≡ false → mergeWithin 16 (patternOf p) (patternOf q)
         ≡ record { pattern = joined (through 16 (patternOf p) true 0 (patternOf q) nothing .kept); clipped = through 16 (patternOf p) true 0 (patternOf q) nothing .clipped }
     unfolding mergeWithin pick
@@ -51,3 +52,8 @@ module _ (p q : Pattern) (first second : Bool) (said : first ≡ covers (pattern
           mark = ap (λ (b : Building). b .clipped) is ∙ sym (ap (λ (m : Merge). m .clipped) e);
           sound = h .sound;
         }
+
+-- any two values that are one merge hold the same steps and the same mark
+pub one-merge : (r t : Marked) (m : Merge) → IsMerge r m → IsMerge t m → (stepsIn (r .pattern) ≡ stepsIn (t .pattern)) × (r .clipped ≡ t .clipped)
+one-merge r t m h k =
+    (sym (h .sound .written) ∙ ap stepsOf (h .pattern ∙ sym (k .pattern)) ∙ k .sound .written, h .mark ∙ sym (k .mark))

@@ -1,16 +1,15 @@
 -- What is being built at a pair, by value, and what becomes of it when a candidate is offered.
-use Prim.Native.Nat.{ℕ, zero, suc, _+_, _≤_, _<_}
-use mathlib.Core.Path.{_≡_, refl, sym, _∙_, ap}
-use mathlib.Core.Bool.{Bool, true, false, _||_}
+use Prim.Native.Nat.{ℕ, _+_, _≤_, _<_}
+use mathlib.Core.Path.{_≡_, sym, _∙_, ap}
+use mathlib.Core.Bool.{Bool, true, false}
 use mathlib.Core.List.{List, [], _∷_, _++_}
 use native.Mathlib.Omega.{arith}
-use lib.Dec.{leb}
 use borrow.Author.Tests.{le-leb, lt-leb}
 use Rattle.base.specs.Choice.{pick}
-use Rattle.base.specs.Lists.{some, keep, total}
-use Rattle.meaning.specs.Forest.{Axis, near, far, axisOf, Forest, none, step, size}
+use Rattle.base.specs.Lists.{keep, total}
+use Rattle.meaning.specs.Forest.{near, Forest, none, step, size}
 use Rattle.meaning.specs.Covering.{covers}
-use Rattle.meaning.specs.Merging.{Branch, alone, branchSize, laidOn, staysBeside, Building, Body, offer, meet}
+use Rattle.meaning.specs.Merging.{Branch, alone, branchSize, staysBeside, Building, Body, offer}
 use Rattle.shapes.specs.Shapes.{patternOf, SoundPattern}
 use Rattle.shapes.specs.declared.Pattern.{Pattern}
 use Rattle.covering.specs.Turns.{length-steps}
@@ -38,10 +37,12 @@ module _ (own : ℕ) (c : Branch) (f : Forest) (m : Bool) where
   unfolding offer buildingAt pick
   skips e = rw (skipped c f, e)
 
+  -- the size of a branch
   size-alone : branchSize c ≡ size (alone c)
   unfolding branchSize size alone
   size-alone = omega arith
 
+  -- the size of what stays
   stay-size : total branchSize (keep (staysBeside c) (branchesOf f)) ≡ size (staying (alone c) f)
   stay-size = ap (total branchSize) (sym (stay-kept c f)) ∙ branches-size (staying (alone c) f)
 
@@ -66,18 +67,18 @@ module _ (own : ℕ) (c : Branch) (f : Forest) (m : Bool) where
 -- ---- the same by value
 module _ (own : ℕ) (b : Marked) (c : Pattern) (sound : SoundPattern (b .pattern)) (few : own + b .pattern .count ≤ 16) (branch : IsBranch c) (laid : Bool)
     (said : laid ≡ covers (patternOf c) (patternOf (b .pattern))) where
-  offered : Building
-  offered = offer 16 own (firstBranch (patternOf c)) (buildingOf b)
-
+  -- what was asked of the candidate
   said-of : covers (alone (firstBranch (patternOf c))) (patternOf (b .pattern)) ≡ laid
   unfolding IsBranch
   said-of = rw (sym (branch .1)) (sym said)
 
+  -- it is skipped
   pub skips-it : laid ≡ true → Built own b (offer 16 own (firstBranch (patternOf c)) (buildingOf b))
   unfolding buildingOf
   skips-it t = record { sound = sound; few = few; is = skips own (firstBranch (patternOf c)) (patternOf (b .pattern)) (b .clipped) (said-of ∙ t) }
 
   module _ (stay : Pattern) (stood : Stands stay (staying (patternOf c) (patternOf (b .pattern)))) where
+    -- the size that is tested
     sizes : own + size (staying (alone (firstBranch (patternOf c))) (patternOf (b .pattern))) + size (alone (firstBranch (patternOf c))) ≡ own + stay .count + c .count
     unfolding IsBranch
     sizes =
@@ -86,6 +87,7 @@ module _ (own : ℕ) (b : Marked) (c : Pattern) (sound : SoundPattern (b .patter
         let second : size (alone (firstBranch (patternOf c))) ≡ c .count = ap size (sym (branch .1)) ∙ sym (count-size c (branch .0) (length-steps c (branch .0))) in
         omega arith
 
+    -- it is put
     pub puts-it : laid ≡ false → own + stay .count + c .count ≤ 16 → (t : Pattern) → Stands t (beside (patternOf stay) (patternOf c))
         → Built own (record { pattern = t; clipped = b .clipped }) (offer 16 own (firstBranch (patternOf c)) (buildingOf b))
     unfolding buildingOf IsBranch
@@ -103,6 +105,7 @@ module _ (own : ℕ) (b : Marked) (c : Pattern) (sound : SoundPattern (b .patter
           is = ap (λ (h : Forest). buildingAt h (b .clipped)) same ∙ puts own (firstBranch (patternOf c)) (patternOf (b .pattern)) (b .clipped) (said-of ∙ u) (omega arith);
         }
 
+    -- it is left out
     pub leaves-it : laid ≡ false → 16 < own + stay .count + c .count
         → Built own (record { pattern = b .pattern; clipped = true }) (offer 16 own (firstBranch (patternOf c)) (buildingOf b))
     unfolding buildingOf

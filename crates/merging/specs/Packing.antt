@@ -1,7 +1,7 @@
 -- A body as it is kept in the table: its step count, its mark, and three bytes a step.
 use Prim.Native.Nat.{ℕ, zero, suc, _+_, _*_, _-_, _≤_, _<_}
-use mathlib.Core.Path.{_≡_, refl, sym, _∙_, ap, subst}
-use mathlib.Core.Bool.{Bool, true, false}
+use mathlib.Core.Path.{_≡_, sym, _∙_, ap}
+use mathlib.Core.Bool.{Bool}
 use mathlib.Core.List.{List, [], _∷_, _++_, append-assoc, append-nil}
 use mathlib.Core.Logic.{_⊎_, inl, inr}
 use native.Mathlib.Omega.{arith}
@@ -13,11 +13,11 @@ use lib.Seq.{getD-set-same, getD-set-other}
 use Rattle.meaning.specs.Forest.{near, none, step, stepsOf}
 use Rattle.meaning.specs.Merging.{Body}
 use Rattle.meaning.specs.declared.Step.{Step}
-use Rattle.shapes.specs.Shapes.{patternOf, stepsIn, SoundPattern}
+use Rattle.shapes.specs.Shapes.{stepsIn, SoundPattern}
 use Rattle.shapes.specs.declared.Pattern.{Pattern}
-use Rattle.covering.specs.Turns.{stepIn, length-steps, steps-from, steps-end}
+use Rattle.covering.specs.Turns.{stepIn, steps-from, steps-end}
 use Rattle.merging.specs.declared.Marked.{Marked}
-use Rattle.merging.specs.Copying.{Holds, Stands, stands}
+use Rattle.merging.specs.Copying.{Holds, stands}
 use Rattle.merging.specs.Turns.{after}
 use Rattle.merging.specs.Offers.{IsBody}
 
@@ -42,19 +42,23 @@ pub record Packed (bs : List ℕ) (body : Body) : Type 0 where
 
 -- ---- reading them
 
+-- what is read so far, and what is to be read from step k on
 unfoldable pub withPacked : List Step → List ℕ → ℕ → List Step
 withPacked done bs k = done ++ packedFrom bs k (getD bs 0 0 - k)
 
+-- at the start nothing is read
 pub unpack-starts : (bs : List ℕ) (done : List Step) → done ≡ [] → withPacked done bs 0 ≡ packed bs
 unfolding withPacked packed
 unpack-starts bs done e = rw e (ap (packedFrom bs 0) (omega arith))
 
+-- one step is read
 pub unpack-step : (bs : List ℕ) (done whole : List Step) (k : ℕ) → k < getD bs 0 0 → withPacked done bs k ≡ whole → withPacked (after done (stepOf bs k)) bs (k + 1) ≡ whole
 unfolding withPacked packedFrom after
 unpack-step bs done whole k h i =
     let n : getD bs 0 0 - k ≡ suc (getD bs 0 0 - suc k) = omega arith in
     rw (add-one k) (append-assoc done (stepOf bs k ∷ []) (packedFrom bs (suc k) (getD bs 0 0 - suc k)) ∙ sym (rw n) ∙ i)
 
+-- all is read
 pub unpack-done : (bs : List ℕ) (done whole : List Step) (k : ℕ) → getD bs 0 0 ≤ k → withPacked done bs k ≡ whole → done ≡ whole
 unfolding withPacked packedFrom
 unpack-done bs done whole k h i =
@@ -78,10 +82,12 @@ pub record Written (p : Pattern) (clipped : Bool) (bs : List ℕ) (k : ℕ) : Ty
   pub mark : eqb (getD bs 1 0) 1 ≡ clipped
   pub steps : (j : ℕ) → j < k → stepOf bs j ≡ stepIn p j
 
+-- the three bytes of a step
 unfoldable pub stepSet : List ℕ → ℕ → Step → List ℕ
 stepSet bs k s = set (set (set bs (2 + 3 * k) (s .parent)) (3 + 3 * k) (s .axis)) (4 + 3 * k) (s .label)
 
 module _ (bs : List ℕ) (k : ℕ) (s : Step) (full : length bs ≡ 50) (room : k < 16) where
+  -- no byte more or less
   set-length : length (stepSet bs k s) ≡ 50
   unfolding stepSet
   set-length =
@@ -89,6 +95,7 @@ module _ (bs : List ℕ) (k : ℕ) (s : Step) (full : length bs ≡ 50) (room : 
       let b2 = set b1 (3 + 3 * k) (s .axis) in
       length-set b2 (4 + 3 * k) (s .label) ∙ length-set b1 (3 + 3 * k) (s .axis) ∙ length-set bs (2 + 3 * k) (s .parent) ∙ full
 
+  -- other bytes stay
   set-elsewhere : (i : ℕ) → (i ≡ 2 + 3 * k → ⊥) → (i ≡ 3 + 3 * k → ⊥) → (i ≡ 4 + 3 * k → ⊥) → getD (stepSet bs k s) i 0 ≡ getD bs i 0
   unfolding stepSet
   set-elsewhere i a b c =
@@ -96,6 +103,7 @@ module _ (bs : List ℕ) (k : ℕ) (s : Step) (full : length bs ≡ 50) (room : 
       let b2 = set b1 (3 + 3 * k) (s .axis) in
       getD-set-other b2 (4 + 3 * k) i (s .label) 0 c ∙ getD-set-other b1 (3 + 3 * k) i (s .axis) 0 b ∙ getD-set-other bs (2 + 3 * k) i (s .parent) 0 a
 
+  -- the step is there
   set-same : stepOf (stepSet bs k s) k ≡ s
   unfolding stepSet stepOf
   set-same =
@@ -111,6 +119,7 @@ module _ (bs : List ℕ) (k : ℕ) (s : Step) (full : length bs ≡ 50) (room : 
       let la : getD (set b2 (4 + 3 * k) (s .label)) (4 + 3 * k) 0 ≡ s .label = getD-set-same b2 (4 + 3 * k) (s .label) 0 (omega arith) in
       λ i. record { parent = pa i; axis = ax i; label = la i }
 
+  -- an earlier step stays
   set-other : (j : ℕ) → j < k → stepOf (stepSet bs k s) j ≡ stepOf bs j
   unfolding stepOf
   set-other j h =

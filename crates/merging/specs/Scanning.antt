@@ -1,15 +1,15 @@
 -- The loops over pairs: the steps after a step, up to the first whose parent is above it, are the walk of its child steps.
 use Prim.Native.Nat.{ℕ, zero, suc, _+_, _≤_, _<_}
-use mathlib.Core.Path.{_≡_, refl, sym, _∙_, ap, subst}
+use mathlib.Core.Path.{_≡_, refl, sym, _∙_, ap}
 use mathlib.Core.Bool.{Bool, true, false, _&&_}
 use mathlib.Core.List.{List, [], _∷_, _++_}
 use native.Mathlib.Omega.{arith}
 use native.Mathlib.Numerals.{add-one}
 use lib.Dec.{eqb, ltb}
-use lib.ListN.{length, drop}
+use lib.ListN.{drop}
 use borrow.Author.Tests.{eq-eqb, ne-eqb, lt-ltb, le-ltb}
 use Rattle.base.specs.Choice.{pick}
-use Rattle.meaning.specs.Forest.{Axis, near, far, axisOf, axisNumber, isNear, Forest, none, step, size, childrenIn, stepsFrom}
+use Rattle.meaning.specs.Forest.{Axis, axisOf, isNear, Forest, none, step, size, childrenIn, stepsFrom}
 use Rattle.meaning.specs.Covering.{stepAt}
 use Rattle.meaning.specs.Merging.{Building, nothing, meetAt, across, through}
 use Rattle.meaning.specs.declared.Step.{Step}
@@ -34,10 +34,12 @@ unfolding axisOf isNear
 near-zero zero = refl
 near-zero (suc x) = ne-eqb (suc x) 0 (λ e. omega arith)
 
+-- a child is near where its axis is 0
 pub near-if : (s : Step) (w : ℕ) → s .parent ≡ w → eqb (s .axis) 0 ≡ nearChild w s
 unfolding nearChild
 near-if s w e = rw (eq-eqb (s .parent) w e) (near-zero (s .axis))
 
+-- another step is no near child
 pub near-not : (s : Step) (w : ℕ) → (s .parent ≡ w → ⊥) → false ≡ nearChild w s
 unfolding nearChild
 near-not s w e = rw (ne-eqb (s .parent) w e)
@@ -49,6 +51,7 @@ scanFrom pair w k (s ∷ ss) b =
     pick (ltb (s .parent) w) b (scanFrom pair w (suc k) ss (pair (nearChild w s) (s .label) (childrenIn k (suc k) ss) b))
 
 module _ (pair : Meeting) (w : ℕ) where
+  -- the walk ends with the block
   ended : (k : ℕ) (after : List Step) (b : Building) → Ends w after → scanFrom pair w k after b ≡ b
   unfolding scanFrom Ends pick
   ended k [] b e = refl

@@ -1,15 +1,15 @@
 -- The turns of the loop over root branches: each begins where the branch before it ends.
-use Prim.Native.Nat.{ℕ, zero, suc, _+_, _-_, _≤_, _<_}
+use Prim.Native.Nat.{ℕ, suc, _+_, _-_, _≤_, _<_}
 use mathlib.Core.Path.{_≡_, refl, sym, _∙_, ap}
 use mathlib.Core.Logic.{inl}
-use mathlib.Core.Bool.{Bool, true, false, not}
+use mathlib.Core.Bool.{Bool, true, false}
 use mathlib.Core.List.{List, [], _∷_, _++_}
 use native.Mathlib.Omega.{arith}
 use native.Mathlib.Numerals.{add-one}
 use lib.ListN.{length, drop, length-append, length-drop}
 use lib.Seq.{drop-drop, drop-at}
 use Rattle.base.specs.Choice.{pick}
-use Rattle.meaning.specs.Forest.{Axis, near, far, axisOf, axisNumber, Forest, none, step, size, stepsFrom, stepsOf, childrenIn, forest}
+use Rattle.meaning.specs.Forest.{Axis, near, far, axisOf, axisNumber, Forest, none, step, size, stepsFrom, stepsOf, childrenIn}
 use Rattle.meaning.specs.Covering.{stepAt, covers}
 use Rattle.meaning.specs.declared.Step.{Step}
 use Rattle.shapes.specs.Shapes.{patternOf, stepsIn, SoundPattern}
@@ -33,6 +33,7 @@ pub record Turn (p : Pattern) (k : ℕ) (rest : Forest) : Type 0 where
   pub within : k + size (branchAt p k) ≤ p .count
   pub next : drop (k + size (branchAt p k)) (stepsIn p) ≡ stepsFrom 0 (suc (k + size (branchAt p k))) later
 
+-- an axis is 0 or 1
 small : (a : Axis) → axisNumber a ≤ 1
 unfolding axisNumber
 small near = omega arith
@@ -86,6 +87,7 @@ goes : (c : Forest) (p : Pattern) (k : ℕ) (later : Forest) → covers (branchA
 unfolding staying beside branchAt pick
 goes c p k later e = rw e
 
+-- and one that stays is first of what stays
 remains : (c : Forest) (p : Pattern) (k : ℕ) (later : Forest) → covers (branchAt p k) c ≡ false
     → staying c (beside (branchAt p k) later) ≡ beside (branchAt p k) (staying c later)
 unfolding staying beside branchAt pick
@@ -105,6 +107,7 @@ module _ (p : Pattern) (sound : SoundPattern p) (c : Forest) where
       record { rest = patternOf p; begins = sym (sound .written); sound = h .1; few = omega arith; within = omega arith; whole = rw (h .0) }
 
   module _ (k : ℕ) (more : k < p .count) (r b : Pattern) (left : Left p c k r) (is : Stands b (branchAt p k)) where
+    -- its size
     size-is : size (branchAt p k) ≡ b .count
     size-is = sym (count-size b (is .sound) (length-steps b (is .sound)) ∙ ap size (is .pattern))
 

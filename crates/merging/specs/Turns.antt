@@ -1,12 +1,10 @@
 -- The turns of the copying loop: what is copied so far, with what is left of the block, is the whole copy.
-use Prim.Native.Nat.{ℕ, zero, suc, _+_, _-_, _≤_, _<_}
-use mathlib.Core.Path.{_≡_, refl, sym, _∙_, ap, subst}
-use mathlib.Core.Bool.{Bool, true, false}
+use Prim.Native.Nat.{ℕ, zero, suc, _+_, _≤_, _<_}
+use mathlib.Core.Path.{_≡_, sym, _∙_, ap, subst}
 use mathlib.Core.List.{List, [], _∷_, _++_, append-assoc, append-nil}
 use native.Mathlib.Omega.{arith}
 use native.Mathlib.Numerals.{add-one}
-use lib.Dec.{eqb, ltb}
-use lib.ListN.{length, drop, getD, take, set, length-append, length-set, length-take}
+use lib.ListN.{length, drop, getD, take, set, length-append, length-set}
 use lib.Seq.{take-suc-set, length-take-le}
 use borrow.Author.Tests.{lt-ltb, le-ltb}
 use Rattle.base.specs.Choice.{pick}
@@ -23,10 +21,12 @@ use Rattle.merging.specs.Copying.{Holds, movedStep, movedBlock, moved-bl
 
 -- ---- a parent has a lower number
 
+-- every step, the first of them numbered k, has a parent with a lower number
 Low : ℕ → List Step → Type 0
 Low k [] = Unit {0}
 Low k (s ∷ ss) = (s .parent < k) × Low (suc k) ss
 
+-- so have the steps of a forest
 low-written : (p k : ℕ) (f : Forest) (after : List Step) → p < k → Low (k + size f) after → Low k (stepsFrom p k f ++ after)
 unfolding Low stepsFrom size afterwards written
 low-written p k none after h l = subst (λ (n : ℕ). Low n after) (omega arith) l
@@ -34,6 +34,7 @@ low-written p k (step a m kids later) after h l =
     let beside = low-written p (suc k + size kids) later after (omega arith) (subst (λ (n : ℕ). Low n after) (omega arith) l) in
     subst (Low k) (sym (steps-split p k a m kids later after)) (h, low-written k (suc k) kids (afterwards p k kids later after) (omega arith) beside)
 
+-- and each of them
 low-at : (k j : ℕ) (ss : List Step) (d : Step) → j < length ss → Low k ss → getD ss j d .parent < k + j
 unfolding Low
 low-at k j [] d h l = absurd (omega arith)
@@ -41,6 +42,7 @@ low-at k zero (s ∷ ss) d h l = omega arith
 low-at k (suc j) (s ∷ ss) d h l = omega (arith, low-at (suc k) j ss d (omega arith) (l .1))
 
 module _ (p : Pattern) (sound : SoundPattern p) where
+  -- the parent of a step of a pattern
   pub parent-low : (k : ℕ) → k < p .count → stepIn p k .parent ≤ k
   unfolding Low stepsOf stepAt
   parent-low k h =
@@ -58,14 +60,17 @@ holds-none r h =
 
 -- ---- one step more
 
+-- a step after others
 unfoldable pub after : List Step → Step → List Step
 after ss s = ss ++ (s ∷ [])
 
+-- there is one more
 pub after-number : (t : Pattern) (s : Step) → t .count ≤ 16 → length (t .steps) ≡ 16 → length (after (stepsIn t) s) ≡ t .count + 1
 unfolding stepsIn after
 after-number t s few full =
     length-append (take (t .count) (t .steps)) (s ∷ []) ∙ ap (λ (n : ℕ). n + 1) (length-take-le (t .count) (t .steps) (omega arith))
 
+-- a pattern with one step more
 pub one-more : (r : Pattern) (s : Step) (t : Pattern) → r .count < 16 → length (r .steps) ≡ 16 → t .count ≡ r .count + 1 → t .steps ≡ set (r .steps) (r .count) s
     → Holds t (after (stepsIn r) s)
 unfolding stepsIn after

@@ -1,23 +1,21 @@
 -- The turns of the two loops over pairs: what is left of the walk from here on builds what all of it builds.
-use Prim.Native.Nat.{ℕ, zero, suc, _+_, _≤_, _<_}
-use mathlib.Core.Path.{_≡_, refl, sym, _∙_, ap}
+use Prim.Native.Nat.{ℕ, _+_, _≤_, _<_}
+use mathlib.Core.Path.{_≡_, sym, _∙_, ap}
 use mathlib.Core.Bool.{Bool, true, false, _&&_}
-use mathlib.Core.List.{List, []}
-use native.Mathlib.Omega.{arith}
-use Rattle.meaning.specs.Forest.{Forest, none, size}
+use mathlib.Core.List.{List}
+use Rattle.meaning.specs.Forest.{Forest, none}
 use Rattle.meaning.specs.Covering.{stepAt}
-use Rattle.meaning.specs.Merging.{Building, nothing, meet, meetAt, across, through}
+use Rattle.meaning.specs.Merging.{Building, nothing, meet, meetAt, through}
 use Rattle.meaning.specs.declared.Step.{Step}
 use Rattle.shapes.specs.Shapes.{patternOf, stepsIn, SoundPattern}
 use Rattle.shapes.specs.declared.Pattern.{Pattern}
 use Rattle.covering.specs.Questions.{childrenOf}
 use Rattle.covering.specs.Turns.{stepIn}
 use Rattle.merging.specs.declared.Marked.{Marked}
-use Rattle.merging.specs.Turns.{holds-none}
 use Rattle.merging.specs.Branches.{branchesOf, buildingAt}
 use Rattle.merging.specs.Offers.{buildingOf, Built, bodyIn, IsBody}
 use Rattle.merging.specs.Candidates.{body-in}
-use Rattle.merging.specs.Scanning.{Meeting, nearChild, meetAll, through-across, restWalks, walk-starts, walk-step, walk-ends, walk-done}
+use Rattle.merging.specs.Scanning.{Meeting, nearChild, meetAll, through-across, restWalks, walk-starts, walk-step}
 use Rattle.merging.specs.Bodies.{bodyFor, meets}
 
 -- what step v, near child or not, makes with a step w'

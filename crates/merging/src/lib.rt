@@ -4,30 +4,29 @@ use covering::lies_at;
 use meaning::Step;
 use shapes::Pattern;
 use shapes::no_steps;
-ghost use mathlib.Core.Path.{_≡_};
-ghost use mathlib.Core.List.{[], _∷_, _++_};
-ghost use lib.ListN.{length, getD};
-ghost use lib.Dec.{eqb};
 ghost use Prim.Native.Nat.{suc, _+_, _-_, _≤_, _<_};
+ghost use mathlib.Core.Path.{_≡_};
+ghost use mathlib.Core.Bool.{true, _&&_, _||_};
+ghost use mathlib.Core.List.{[], _∷_, _++_};
+ghost use lib.Dec.{eqb};
+ghost use lib.ListN.{length, getD};
+ghost use Rattle.base.specs.Choice.{pick};
 ghost use Rattle.meaning.specs.Forest.{near, far, axisOf, none, step, stepsFrom};
 ghost use Rattle.meaning.specs.Covering.{stepAt};
+ghost use Rattle.meaning.specs.Merging.{nothing, commonLabel, offer, meet, through, merge};
 ghost use Rattle.shapes.specs.Shapes.{patternOf, stepsIn, SoundPattern};
 ghost use Rattle.covering.specs.Questions.{childrenOf};
 ghost use Rattle.merging.specs.Copying.{Holds, Stands, movedStep};
-ghost use Rattle.merging.specs.Turns.{after};
-ghost use Rattle.meaning.specs.Merging.{nothing, commonLabel, offer, meet, through, merge};
-ghost use Rattle.base.specs.Choice.{pick};
-ghost use mathlib.Core.Bool.{_||_, _&&_, true, false};
 ghost use Rattle.merging.specs.Branches.{staying, firstBranch};
+ghost use Rattle.merging.specs.Offers.{buildingOf, Built, IsBranch, bodyIn, IsBody};
 ghost use Rattle.merging.specs.Scanning.{nearChild};
+ghost use Rattle.merging.specs.Packing.{packed, Written};
+ghost use Rattle.merging.specs.Bodies.{bodyFor, bodyAt, Known};
 ghost use Rattle.merging.specs.Walks.{acrossOf};
 ghost use Rattle.merging.specs.Merges.{IsMerge};
-ghost use Rattle.merging.specs.Bodies.{bodyFor, bodyAt, Known};
-ghost use Rattle.merging.specs.Packing.{packed, Written};
-ghost use Rattle.merging.specs.Offers.{buildingOf, Built, IsBranch, bodyIn, IsBody};
 
-// A merge: the pattern, and whether a candidate was left out. So too what is being built at a pair, its kept candidates
-// joined, and a body, a pattern whose one root step is near.
+// A merge: the pattern, and whether a candidate was left out. So too what is being built at a pair, with its kept candidates
+// joined, and a body, whose one root step is near.
 pub struct Marked {
     pub pattern: Pattern,
     pub clipped: bool,
@@ -45,18 +44,6 @@ fn one(axis: u8, label: u8) -> Pattern
             label: label,
         }; 16],
     }
-}
-
-// A step one further.
-fn put(r: Pattern, s: Step) -> Pattern
-    requires { ⌜ (r .count < 16) × (length (r .steps) ≡ 16) ⌝ }
-    ensures { λ t. ⌜ Holds t (after (stepsIn r) s) ⌝ }
-{
-    let mut t = r;
-    let n = t.count;
-    t.steps[n] = s;
-    t.count = n + 1;
-    t
 }
 
 // Step s of the block below v, as it stands after n steps: a child of v hangs on `top`.
@@ -94,7 +81,9 @@ fn copied(r: Pattern, p: Pattern, v: usize, top: u8) -> Pattern
             return t;
         }
         k += 1;
-        t = put(t, moved(s, v, n, top));
+        let m = t.count;
+        t.steps[m] = moved(s, v, n, top);
+        t.count = m + 1;
     }
     t
 }
@@ -126,7 +115,8 @@ fn stays(kept: Pattern, c: Pattern) -> Pattern
     r
 }
 
-// One candidate: skipped, put last after drops, or left out.
+// One candidate: skipped if it can be laid on a kept one; otherwise put last, without the kept ones that can be laid on it,
+// or left out where there is no room even so.
 fn offer(b: Marked, c: Pattern, own: usize) -> Marked
     requires { ⌜ SoundPattern (b .pattern) × (own + b .pattern .count ≤ 16) × IsBranch c ⌝ }
     ensures { λ r. ⌜ Built own r (offer 16 own (firstBranch (patternOf c)) (buildingOf b)) ⌝ }
@@ -219,13 +209,13 @@ fn unpack(bytes: [u8; 50]) -> Marked
     let n = bytes[0] as usize;
     let mut k = 0;
     while k < n {
-        let s = Step {
+        p.steps[k] = Step {
             parent: bytes[2 + 3 * k],
             axis: bytes[3 + 3 * k],
             label: bytes[4 + 3 * k],
         };
-        p = put(p, s);
         k += 1;
+        p.count = k;
     }
     Marked {
         pattern: p,

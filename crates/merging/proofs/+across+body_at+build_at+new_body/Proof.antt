@@ -1,5 +1,5 @@
 -- The proof of the cycle of calls {across, body_at, build_at, new_body}. The measures fall with the steps of p that are left.
-use mathlib.Core.Path.{_≡_, refl, sym, _∙_, ap, subst}
+use mathlib.Core.Path.{_≡_, _∙_, ap, subst}
 use mathlib.Core.Bool.{true}
 use native.Mathlib.Omega.{arith}
 use borrow.Author.Needs.{needs}
@@ -10,11 +10,11 @@ use Rattle.covering.specs.Questions.{childrenOf}
 use Rattle.covering.specs.Notes.{cellOf}
 use Rattle.covering.specs.Turns.{stepIn, step-number}
 use Rattle.merging.specs.Turns.{holds-none}
-use Rattle.merging.specs.Offers.{buildingOf, Built, bodyIn, IsBody}
-use Rattle.merging.specs.Candidates.{body-in, body-of-itself}
-use Rattle.merging.specs.Scanning.{nearChild, meetAll, restWalks, walk-ends, walk-done}
-use Rattle.merging.specs.Packing.{Packed, unpacked, kept-body}
-use Rattle.merging.specs.Bodies.{bodyFor, bodyAt, takes-first, takes-second, makes, Slot, Remembered, Known, body-kept}
+use Rattle.merging.specs.Offers.{buildingOf, IsBody}
+use Rattle.merging.specs.Candidates.{body-of-itself}
+use Rattle.merging.specs.Scanning.{meetAll, restWalks, walk-ends, walk-done}
+use Rattle.merging.specs.Packing.{unpacked, kept-body}
+use Rattle.merging.specs.Bodies.{takes-first, takes-second, makes, Slot, Known, body-kept}
 use Rattle.merging.specs.Walks.{pairOf, acrossOf, across-starts, across-step, builds-nothing, through-starts, through-step}
 use Prim.Native.Nat.{ℕ, _+_, _*_, _-_, _≤_, _<_}
 use borrow.Fn.Kinds.{In}
@@ -90,7 +90,6 @@ across-Inv-loop p v direct w own memo₀ there₀ back₀ q b₀ u₀ memo there
 abbrev across-μ-loop : across-lts.MeasureT-loop
 across-μ-loop p v direct w own memo₀ there₀ back₀ q b₀ u₀ memo there back b u = q .count - u
 
--- src/lib.rt:311:5
 across-loop-holds : (t : ℕ) → across-lts.Need-loop-holds (
   body-at-below t,
   body-at.Post,
@@ -106,7 +105,6 @@ across-loop-holds t c =
     let h = c .pre .1 in
     (h .0, omega arith, h .3, h .4, h .5, across-starts (a .t2) (h .0 .onto .second) (a .own) (a .direct) (stepsIn (a .p)) (a .v) (a .w) (buildingOf (a .built)) (h .3))
 
--- src/lib.rt:312:17
 across-mul-t : (t : ℕ) → across-lts.Need-mul-t (
   body-at-below t,
   body-at.Post,
@@ -119,7 +117,6 @@ across-mul-t : (t : ℕ) → across-lts.Need-mul-t (
 ) (across-at t) across.Post across-Inv-loop across-μ-loop
 across-mul-t t c = omega arith
 
--- src/lib.rt:312:17
 across-element-copy-out-t : (t : ℕ) → across-lts.Need-element-copy-out-t (
   body-at-below t,
   body-at.Post,
@@ -132,7 +129,6 @@ across-element-copy-out-t : (t : ℕ) → across-lts.Need-element-copy-out-t (
 ) (across-at t) across.Post across-Inv-loop across-μ-loop
 across-element-copy-out-t t c = omega arith
 
--- src/lib.rt:313:13
 across-cast-if1 : (t : ℕ) → across-lts.Need-cast-if1 (
   body-at-below t,
   body-at.Post,
@@ -145,7 +141,6 @@ across-cast-if1 : (t : ℕ) → across-lts.Need-cast-if1 (
 ) (across-at t) across.Post across-Inv-loop across-μ-loop
 across-cast-if1 t c = search needs
 
--- src/lib.rt:314:13
 across-returns : (t : ℕ) → across-lts.Need-returns (
   body-at-below t,
   body-at.Post,
@@ -163,7 +158,6 @@ across-returns t c =
     let i = l .inv in
     (record { sound = i .3; few = i .4; is = walk-ends (a .t2) (i .0 .onto .second) (pairOf (a .own) (a .direct) (stepsIn (a .p)) (a .v)) (a .w) (l .u) (buildingOf (l .b)) _ (omega arith) (c .if1 .taken) (i .5) }, i .0)
 
--- src/lib.rt:316:9
 across-add-u : (t : ℕ) → across-lts.Need-add-u (
   body-at-below t,
   body-at.Post,
@@ -176,7 +170,6 @@ across-add-u : (t : ℕ) → across-lts.Need-add-u (
 ) (across-at t) across.Post across-Inv-loop across-μ-loop
 across-add-u t c = omega arith
 
--- src/lib.rt:317:13
 across-body-at-requires : (t : ℕ) → across-lts.Need-body-at-requires (
   body-at-below t,
   body-at.Post,
@@ -191,7 +184,6 @@ across-body-at-requires t c κs =
     let i = c .before .before .before .before .before .before .before .loop .inv in
     (omega arith, (i .0, omega arith, omega arith, omega arith, omega arith))
 
--- src/lib.rt:318:40
 across-near-child-requires : (t : ℕ) → across-lts.Need-near-child-requires (
   body-at-below t,
   body-at.Post,
@@ -204,7 +196,6 @@ across-near-child-requires : (t : ℕ) → across-lts.Need-near-child-requires (
 ) (across-at t) across.Post across-Inv-loop across-μ-loop
 across-near-child-requires t c κs = tt
 
--- src/lib.rt:318:27
 across-both-requires : (t : ℕ) → across-lts.Need-both-requires (
   body-at-below t,
   body-at.Post,
@@ -217,7 +208,6 @@ across-both-requires : (t : ℕ) → across-lts.Need-both-requires (
 ) (across-at t) across.Post across-Inv-loop across-μ-loop
 across-both-requires t c κs = tt
 
--- src/lib.rt:318:9
 across-meet-requires : (t : ℕ) → across-lts.Need-meet-requires (
   body-at-below t,
   body-at.Post,
@@ -232,7 +222,6 @@ across-meet-requires t c κs =
     let i = c .before .before .before .before .before .before .before .before .before .before .loop .inv in
     (i .3, i .4, body-of-itself _ _ (c .before .before .body-at .ensures .0))
 
--- src/lib.rt:311:5
 across-loop-less : (t : ℕ) → across-lts.Need-loop-less (
   body-at-below t,
   body-at.Post,
@@ -245,7 +234,6 @@ across-loop-less : (t : ℕ) → across-lts.Need-loop-less (
 ) (across-at t) across.Post across-Inv-loop across-μ-loop
 across-loop-less t c = omega arith
 
--- src/lib.rt:311:5
 across-loop-again : (t : ℕ) → across-lts.Need-loop-again (
   body-at-below t,
   body-at.Post,
@@ -272,7 +260,6 @@ across-loop-again t c =
           more (c .before .before .before .before .before .before .before .if1 .left) (body .ensures .0) (c .before .before .near-child .ensures) (c .before .both .ensures) (c .meet .ensures) (i .5),
     )
 
--- src/lib.rt:305:1
 across-returns-2 : (t : ℕ) → across-lts.Need-returns-2 (
   body-at-below t,
   body-at.Post,
@@ -289,7 +276,6 @@ across-returns-2 t c =
     let i = l .inv in
     (record { sound = i .3; few = i .4; is = walk-done (a .t2) (i .0 .onto .second) (pairOf (a .own) (a .direct) (stepsIn (a .p)) (a .v)) (a .w) (l .u) (buildingOf (l .b)) _ (omega arith) (i .5) }, i .0)
 
--- src/lib.rt:328:17
 body-at-sub-cell : (t : ℕ) → body-at-lts.Need-sub-cell (
   unpack-reads.Asked,
   unpack-reads.Learnt,
@@ -300,7 +286,6 @@ body-at-sub-cell : (t : ℕ) → body-at-lts.Need-sub-cell (
 ) (body-at-at t) body-at.Post
 body-at-sub-cell t c = omega arith
 
--- src/lib.rt:328:16
 body-at-mul-cell : (t : ℕ) → body-at-lts.Need-mul-cell (
   unpack-reads.Asked,
   unpack-reads.Learnt,
@@ -311,7 +296,6 @@ body-at-mul-cell : (t : ℕ) → body-at-lts.Need-mul-cell (
 ) (body-at-at t) body-at.Post
 body-at-mul-cell t c = omega arith
 
--- src/lib.rt:328:32
 body-at-sub-cell-2 : (t : ℕ) → body-at-lts.Need-sub-cell-2 (
   unpack-reads.Asked,
   unpack-reads.Learnt,
@@ -322,7 +306,6 @@ body-at-sub-cell-2 : (t : ℕ) → body-at-lts.Need-sub-cell-2 (
 ) (body-at-at t) body-at.Post
 body-at-sub-cell-2 t c = omega arith
 
--- src/lib.rt:328:16
 body-at-add-cell : (t : ℕ) → body-at-lts.Need-add-cell (
   unpack-reads.Asked,
   unpack-reads.Learnt,
@@ -333,7 +316,6 @@ body-at-add-cell : (t : ℕ) → body-at-lts.Need-add-cell (
 ) (body-at-at t) body-at.Post
 body-at-add-cell t c = omega arith
 
--- src/lib.rt:329:16
 body-at-mul-slot : (t : ℕ) → body-at-lts.Need-mul-slot (
   unpack-reads.Asked,
   unpack-reads.Learnt,
@@ -344,7 +326,6 @@ body-at-mul-slot : (t : ℕ) → body-at-lts.Need-mul-slot (
 ) (body-at-at t) body-at.Post
 body-at-mul-slot t c = omega arith
 
--- src/lib.rt:329:16
 body-at-element-copy-out-slot : (t : ℕ) → body-at-lts.Need-element-copy-out-slot (
   unpack-reads.Asked,
   unpack-reads.Learnt,
@@ -355,7 +336,6 @@ body-at-element-copy-out-slot : (t : ℕ) → body-at-lts.Need-element-copy-out-
 ) (body-at-at t) body-at.Post
 body-at-element-copy-out-slot t c = omega arith
 
--- src/lib.rt:330:8
 body-at-array-read-if1 : (t : ℕ) → body-at-lts.Need-array-read-if1 (
   unpack-reads.Asked,
   unpack-reads.Learnt,
@@ -366,7 +346,6 @@ body-at-array-read-if1 : (t : ℕ) → body-at-lts.Need-array-read-if1 (
 ) (body-at-at t) body-at.Post
 body-at-array-read-if1 t c = omega arith
 
--- src/lib.rt:331:9
 body-at-unpack-requires : (t : ℕ) → body-at-lts.Need-unpack-requires (
   unpack-reads.Asked,
   unpack-reads.Learnt,
@@ -382,7 +361,6 @@ body-at-unpack-requires t c κs =
     let k = h .0 .bodies .right (s .args .v) (s .args .w) (omega arith) (omega arith) (omega arith) (omega arith) (c .if1 .taken) in
     k .few
 
--- src/lib.rt:331:9
 body-at-returns : (t : ℕ) → body-at-lts.Need-returns (
   unpack-reads.Asked,
   unpack-reads.Learnt,
@@ -398,7 +376,6 @@ body-at-returns t c =
     let k = h .0 .bodies .right (s .args .v) (s .args .w) (omega arith) (omega arith) (omega arith) (omega arith) (c .before .if1 .taken) in
     (unpacked _ _ (c .unpack .result) k (c .unpack .ensures .0) (c .unpack .ensures .1), h .0)
 
--- src/lib.rt:333:9
 body-at-new-body-requires : (t : ℕ) → body-at-lts.Need-new-body-requires (
   unpack-reads.Asked,
   unpack-reads.Learnt,
@@ -411,7 +388,6 @@ body-at-new-body-requires t c κs =
     let h = c .before .before .before .before .before .pre .1 in
     (omega arith, (h .0, h .1, h .2, h .3, h .4))
 
--- src/lib.rt:334:9
 body-at-pack-requires : (t : ℕ) → body-at-lts.Need-pack-requires (
   unpack-reads.Asked,
   unpack-reads.Learnt,
@@ -422,7 +398,6 @@ body-at-pack-requires : (t : ℕ) → body-at-lts.Need-pack-requires (
 ) (body-at-at t) body-at.Post
 body-at-pack-requires t c κs = c .new-body .ensures .0 .stands .sound
 
--- src/lib.rt:335:5
 body-at-mul-bytes : (t : ℕ) → body-at-lts.Need-mul-bytes (
   unpack-reads.Asked,
   unpack-reads.Learnt,
@@ -433,7 +408,6 @@ body-at-mul-bytes : (t : ℕ) → body-at-lts.Need-mul-bytes (
 ) (body-at-at t) body-at.Post
 body-at-mul-bytes t c = omega arith
 
--- src/lib.rt:335:5
 body-at-element-set-from-bytes : (t : ℕ) → body-at-lts.Need-element-set-from-bytes (
   unpack-reads.Asked,
   unpack-reads.Learnt,
@@ -444,7 +418,6 @@ body-at-element-set-from-bytes : (t : ℕ) → body-at-lts.Need-element-set-from
 ) (body-at-at t) body-at.Post
 body-at-element-set-from-bytes t c = omega arith
 
--- src/lib.rt:324:1
 body-at-returns-2 : (t : ℕ) → body-at-lts.Need-returns-2 (
   unpack-reads.Asked,
   unpack-reads.Learnt,
@@ -475,7 +448,6 @@ build-at-Inv-loop q v w own memo₀ there₀ back₀ p b₀ k₀ memo there back
 abbrev build-at-μ-loop : build-at-lts.MeasureT-loop
 build-at-μ-loop q v w own memo₀ there₀ back₀ p b₀ k₀ memo there back b k = p .count - k
 
--- src/lib.rt:288:18
 build-at-no-steps-requires : (t : ℕ) → build-at-lts.Need-no-steps-requires (
   no-steps-reads.Asked,
   no-steps-reads.Learnt,
@@ -486,7 +458,6 @@ build-at-no-steps-requires : (t : ℕ) → build-at-lts.Need-no-steps-requires (
 ) (build-at-at t) build-at.Post build-at-Inv-loop build-at-μ-loop
 build-at-no-steps-requires t c κs = tt
 
--- src/lib.rt:292:5
 build-at-loop-holds : (t : ℕ) → build-at-lts.Need-loop-holds (
   no-steps-reads.Asked,
   no-steps-reads.Learnt,
@@ -507,7 +478,6 @@ build-at-loop-holds t c =
       through-starts (a .t1) (h .0 .onto .first) (a .own) (childrenOf (stepsIn (a .q)) (a .w)) (a .v) _ (h .1) (builds-nothing (c .no-steps .result) e),
     )
 
--- src/lib.rt:293:17
 build-at-mul-s : (t : ℕ) → build-at-lts.Need-mul-s (
   no-steps-reads.Asked,
   no-steps-reads.Learnt,
@@ -518,7 +488,6 @@ build-at-mul-s : (t : ℕ) → build-at-lts.Need-mul-s (
 ) (build-at-at t) build-at.Post build-at-Inv-loop build-at-μ-loop
 build-at-mul-s t c = omega arith
 
--- src/lib.rt:293:17
 build-at-element-copy-out-s : (t : ℕ) → build-at-lts.Need-element-copy-out-s (
   no-steps-reads.Asked,
   no-steps-reads.Learnt,
@@ -529,7 +498,6 @@ build-at-element-copy-out-s : (t : ℕ) → build-at-lts.Need-element-copy-out-s
 ) (build-at-at t) build-at.Post build-at-Inv-loop build-at-μ-loop
 build-at-element-copy-out-s t c = omega arith
 
--- src/lib.rt:294:13
 build-at-cast-if1 : (t : ℕ) → build-at-lts.Need-cast-if1 (
   no-steps-reads.Asked,
   no-steps-reads.Learnt,
@@ -540,7 +508,6 @@ build-at-cast-if1 : (t : ℕ) → build-at-lts.Need-cast-if1 (
 ) (build-at-at t) build-at.Post build-at-Inv-loop build-at-μ-loop
 build-at-cast-if1 t c = search needs
 
--- src/lib.rt:295:13
 build-at-returns : (t : ℕ) → build-at-lts.Need-returns (
   no-steps-reads.Asked,
   no-steps-reads.Learnt,
@@ -556,7 +523,6 @@ build-at-returns t c =
     let i = l .inv in
     (record { sound = i .3; few = i .4; is = walk-ends (a .t1) (i .0 .onto .first) (meetAll (a .own) (childrenOf (stepsIn (a .q)) (a .w))) (a .v) (l .k) (buildingOf (l .b)) _ (omega arith) (c .if1 .taken) (i .5) }, i .0)
 
--- src/lib.rt:297:9
 build-at-add-k : (t : ℕ) → build-at-lts.Need-add-k (
   no-steps-reads.Asked,
   no-steps-reads.Learnt,
@@ -567,7 +533,6 @@ build-at-add-k : (t : ℕ) → build-at-lts.Need-add-k (
 ) (build-at-at t) build-at.Post build-at-Inv-loop build-at-μ-loop
 build-at-add-k t c = omega arith
 
--- src/lib.rt:298:13
 build-at-near-child-requires : (t : ℕ) → build-at-lts.Need-near-child-requires (
   no-steps-reads.Asked,
   no-steps-reads.Learnt,
@@ -578,7 +543,6 @@ build-at-near-child-requires : (t : ℕ) → build-at-lts.Need-near-child-requir
 ) (build-at-at t) build-at.Post build-at-Inv-loop build-at-μ-loop
 build-at-near-child-requires t c κs = tt
 
--- src/lib.rt:299:9
 build-at-across-requires : (t : ℕ) → build-at-lts.Need-across-requires (
   no-steps-reads.Asked,
   no-steps-reads.Learnt,
@@ -591,7 +555,6 @@ build-at-across-requires t c κs =
     let i = c .before .before .before .before .before .before .before .before .loop .inv in
     (omega arith, (i .0, omega arith, omega arith, c .before .before .before .before .before .before .before .before .before .before .pre .1 .2, i .3, i .4))
 
--- src/lib.rt:292:5
 build-at-loop-less : (t : ℕ) → build-at-lts.Need-loop-less (
   no-steps-reads.Asked,
   no-steps-reads.Learnt,
@@ -602,7 +565,6 @@ build-at-loop-less : (t : ℕ) → build-at-lts.Need-loop-less (
 ) (build-at-at t) build-at.Post build-at-Inv-loop build-at-μ-loop
 build-at-loop-less t c = omega arith
 
--- src/lib.rt:292:5
 build-at-loop-again : (t : ℕ) → build-at-lts.Need-loop-again (
   no-steps-reads.Asked,
   no-steps-reads.Learnt,
@@ -626,7 +588,6 @@ build-at-loop-again t c =
           (omega arith) (c .before .before .before .before .before .if1 .left) (c .before .before .before .before .near-child .ensures) (r .0) (i .5),
     )
 
--- src/lib.rt:283:1
 build-at-returns-2 : (t : ℕ) → build-at-lts.Need-returns-2 (
   no-steps-reads.Asked,
   no-steps-reads.Learnt,
@@ -641,7 +602,6 @@ build-at-returns-2 t c =
     let i = l .inv in
     (record { sound = i .3; few = i .4; is = walk-done (a .t1) (i .0 .onto .first) (meetAll (a .own) (childrenOf (stepsIn (a .q)) (a .w))) (a .v) (l .k) (buildingOf (l .b)) _ (omega arith) (i .5) }, i .0)
 
--- src/lib.rt:344:8
 new-body-lies-at-requires : (t : ℕ) → new-body-lts.Need-lies-at-requires (
   lies-at-reads.Asked,
   lies-at-reads.Learnt,
@@ -658,7 +618,6 @@ new-body-lies-at-requires t c κs =
     let h = c .before .pre .1 in
     (h .0 .onto, h .1, h .2, h .3, h .4)
 
--- src/lib.rt:345:9
 new-body-taken-requires : (t : ℕ) → new-body-lts.Need-taken-requires (
   lies-at-reads.Asked,
   lies-at-reads.Learnt,
@@ -675,7 +634,6 @@ new-body-taken-requires t c κs =
     let h = c .before .before .before .pre .1 in
     (h .0 .onto .first, h .1, h .2)
 
--- src/lib.rt:345:9
 new-body-returns : (t : ℕ) → new-body-lts.Need-returns (
   lies-at-reads.Asked,
   lies-at-reads.Learnt,
@@ -697,7 +655,6 @@ new-body-returns t c =
       record { bodies = h .0 .bodies; onto = r .ensures .1; from = h .0 .from },
     )
 
--- src/lib.rt:347:8
 new-body-lies-at-requires-2 : (t : ℕ) → new-body-lts.Need-lies-at-requires-2 (
   lies-at-reads.Asked,
   lies-at-reads.Learnt,
@@ -714,7 +671,6 @@ new-body-lies-at-requires-2 t c κs =
     let h = c .before .before .before .before .pre .1 in
     (h .0 .from, h .3, h .4, h .1, h .2)
 
--- src/lib.rt:348:9
 new-body-taken-requires-2 : (t : ℕ) → new-body-lts.Need-taken-requires-2 (
   lies-at-reads.Asked,
   lies-at-reads.Learnt,
@@ -731,7 +687,6 @@ new-body-taken-requires-2 t c κs =
     let h = c .before .before .before .before .before .before .pre .1 in
     (h .0 .onto .second, h .3, h .4)
 
--- src/lib.rt:348:9
 new-body-returns-2 : (t : ℕ) → new-body-lts.Need-returns-2 (
   lies-at-reads.Asked,
   lies-at-reads.Learnt,
@@ -754,7 +709,6 @@ new-body-returns-2 t c =
       record { bodies = h .0 .bodies; onto = r .ensures .1; from = z .ensures .1 },
     )
 
--- src/lib.rt:350:21
 new-body-sub-s : (t : ℕ) → new-body-lts.Need-sub-s (
   lies-at-reads.Asked,
   lies-at-reads.Learnt,
@@ -769,7 +723,6 @@ new-body-sub-s : (t : ℕ) → new-body-lts.Need-sub-s (
 ) (new-body-at t) new-body.Post
 new-body-sub-s t c = omega arith
 
--- src/lib.rt:350:13
 new-body-mul-s : (t : ℕ) → new-body-lts.Need-mul-s (
   lies-at-reads.Asked,
   lies-at-reads.Learnt,
@@ -784,7 +737,6 @@ new-body-mul-s : (t : ℕ) → new-body-lts.Need-mul-s (
 ) (new-body-at t) new-body.Post
 new-body-mul-s t c = omega arith
 
--- src/lib.rt:350:13
 new-body-element-copy-out-s : (t : ℕ) → new-body-lts.Need-element-copy-out-s (
   lies-at-reads.Asked,
   lies-at-reads.Learnt,
@@ -799,7 +751,6 @@ new-body-element-copy-out-s : (t : ℕ) → new-body-lts.Need-element-copy-out-s
 ) (new-body-at t) new-body.Post
 new-body-element-copy-out-s t c = omega arith
 
--- src/lib.rt:351:21
 new-body-sub-t : (t : ℕ) → new-body-lts.Need-sub-t (
   lies-at-reads.Asked,
   lies-at-reads.Learnt,
@@ -814,7 +765,6 @@ new-body-sub-t : (t : ℕ) → new-body-lts.Need-sub-t (
 ) (new-body-at t) new-body.Post
 new-body-sub-t t c = omega arith
 
--- src/lib.rt:351:13
 new-body-mul-t : (t : ℕ) → new-body-lts.Need-mul-t (
   lies-at-reads.Asked,
   lies-at-reads.Learnt,
@@ -829,7 +779,6 @@ new-body-mul-t : (t : ℕ) → new-body-lts.Need-mul-t (
 ) (new-body-at t) new-body.Post
 new-body-mul-t t c = omega arith
 
--- src/lib.rt:351:13
 new-body-element-copy-out-t : (t : ℕ) → new-body-lts.Need-element-copy-out-t (
   lies-at-reads.Asked,
   lies-at-reads.Learnt,
@@ -844,7 +793,6 @@ new-body-element-copy-out-t : (t : ℕ) → new-body-lts.Need-element-copy-out-t
 ) (new-body-at t) new-body.Post
 new-body-element-copy-out-t t c = omega arith
 
--- src/lib.rt:352:9
 new-body-build-at-requires : (t : ℕ) → new-body-lts.Need-build-at-requires (
   lies-at-reads.Asked,
   lies-at-reads.Learnt,
@@ -861,7 +809,6 @@ new-body-build-at-requires t c κs =
     let h = c .before .before .before .before .before .before .before .before .before .before .before .pre .1 in
     (omega arith, (record { bodies = h .0 .bodies; onto = c .before .before .before .before .before .before .before .before .before .lies-at .ensures .1; from = c .before .before .before .before .before .before .lies-at2 .ensures .1 }, h .2, h .4, omega arith))
 
--- src/lib.rt:353:10
 new-body-common-label-requires : (t : ℕ) → new-body-lts.Need-common-label-requires (
   lies-at-reads.Asked,
   lies-at-reads.Learnt,
@@ -876,7 +823,6 @@ new-body-common-label-requires : (t : ℕ) → new-body-lts.Need-common-label-re
 ) (new-body-at t) new-body.Post
 new-body-common-label-requires t c κs = tt
 
--- src/lib.rt:353:5
 new-body-made-requires : (t : ℕ) → new-body-lts.Need-made-requires (
   lies-at-reads.Asked,
   lies-at-reads.Learnt,
@@ -891,7 +837,6 @@ new-body-made-requires : (t : ℕ) → new-body-lts.Need-made-requires (
 ) (new-body-at t) new-body.Post
 new-body-made-requires t c κs = (c .before .build-at .ensures .0 .sound, c .before .build-at .ensures .0 .few)
 
--- src/lib.rt:340:1
 new-body-returns-3 : (t : ℕ) → new-body-lts.Need-returns-3 (
   lies-at-reads.Asked,
   lies-at-reads.Learnt,

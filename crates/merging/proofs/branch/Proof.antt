@@ -10,32 +10,22 @@ use Rattle.merging.specs.Copying.{one-branch}
 use borrow.Author.Needs.{needs}
 use Rattle.merging.proofs.branch.Statement.{statement}
 use Rattle.merging.proofs.branch.Tie as tie
-use Rattle.merging.proofs.branch.Reads as reads
-use Rattle.merging.proofs.branch.Lts as lts
-use Rattle.merging.proofs.copied.Reads as copied-reads
-use Rattle.merging.proofs.one.Reads as one-reads
 
--- src/lib.rt:96:21
 sub-s : tie.Need-sub-s
 sub-s c = search needs
 
--- src/lib.rt:96:13
 mul-s : tie.Need-mul-s
 mul-s c = search needs
 
--- src/lib.rt:96:13
 element-copy-out-s : tie.Need-element-copy-out-s
 element-copy-out-s c = search needs
 
--- src/lib.rt:97:12
 one-requires : tie.Need-one-requires
 one-requires c κs = search needs
 
--- src/lib.rt:97:5
 copied-requires : tie.Need-copied-requires
 copied-requires c κs = search needs
 
--- src/lib.rt:92:1
 returns : tie.Need-returns
 unfolding stepIn
 returns c =

@@ -3,15 +3,11 @@ use Rattle.base.specs.Choice.{pick}
 use Rattle.meaning.specs.Merging.{commonLabel}
 use Rattle.merging.proofs.common_label.Statement.{statement}
 use Rattle.merging.proofs.common_label.Tie as tie
-use Rattle.merging.proofs.common_label.Reads as reads
-use Rattle.merging.proofs.common_label.Lts as lts
 
--- src/lib.rt:264:1
 returns : tie.Need-returns
 unfolding commonLabel pick
 returns c = rw (eq-eqb (c .before .args .l) (c .before .args .m) (c .if1 .taken))
 
--- src/lib.rt:264:1
 returns-2 : tie.Need-returns-2
 unfolding commonLabel pick
 returns-2 c = rw (ne-eqb (c .before .args .l) (c .before .args .m) (c .if1 .left))

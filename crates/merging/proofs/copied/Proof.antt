@@ -1,6 +1,7 @@
 use Prim.Native.Nat.{suc, _+_, _-_, _≤_}
-use mathlib.Core.Path.{_≡_, refl}
-use mathlib.Core.List.{[], _++_}
+use mathlib.Core.Path.{_≡_, refl, _∙_, ap}
+use mathlib.Core.List.{List, [], _++_}
+use Rattle.meaning.specs.declared.Step.{Step}
 use native.Mathlib.Omega.{arith}
 use lib.ListN.{length}
 use borrow.Author.Needs.{needs}
@@ -9,13 +10,9 @@ use Rattle.shapes.specs.Shapes.{stepsIn, SoundPattern}
 use Rattle.covering.specs.Questions.{childrenOf}
 use Rattle.covering.specs.Turns.{stepIn}
 use Rattle.merging.specs.Copying.{movedStep}
-use Rattle.merging.specs.Turns.{withRest, parent-low, copy-starts, copy-step, copy-ends, copy-done, holding, after-number}
+use Rattle.merging.specs.Turns.{withRest, parent-low, copy-starts, copy-step, copy-ends, copy-done, holding, after, one-more}
 use Rattle.merging.proofs.copied.Statement.{statement}
 use Rattle.merging.proofs.copied.Tie as tie
-use Rattle.merging.proofs.copied.Reads as reads
-use Rattle.merging.proofs.copied.Lts as lts
-use Rattle.merging.proofs.moved.Reads as moved-reads
-use Rattle.merging.proofs.put.Reads as put-reads
 
 abbrev Inv-loop : tie.InvT-loop
 Inv-loop v top p n t₀ k₀ t k =
@@ -25,7 +22,6 @@ Inv-loop v top p n t₀ k₀ t k =
 abbrev μ-loop : tie.MeasureT-loop
 μ-loop v top p n t₀ k₀ t k = p .count - k
 
--- src/lib.rt:80:5
 loop-holds : tie.Need-loop-holds Inv-loop μ-loop
 loop-holds c =
     let a = c .args in (
@@ -38,19 +34,15 @@ loop-holds c =
       copy-starts (a .t2) (c .pre .0) (a .v) (a .r .count) (a .top) (a .v) [] (stepsIn (a .r)) (omega arith),
     )
 
--- src/lib.rt:81:17
 mul-s : tie.Need-mul-s Inv-loop μ-loop
 mul-s c = omega arith
 
--- src/lib.rt:81:17
 element-copy-out-s : tie.Need-element-copy-out-s Inv-loop μ-loop
 element-copy-out-s c = omega arith
 
--- src/lib.rt:82:13
 cast-if1 : tie.Need-cast-if1 Inv-loop μ-loop
 cast-if1 c = search needs
 
--- src/lib.rt:83:13
 returns : tie.Need-returns Inv-loop μ-loop
 unfolding stepIn
 returns c =
@@ -60,46 +52,47 @@ returns c =
     holding (l .t) _ (omega arith) (i .2)
     (copy-ends (a .t2) (i .5) (a .v) (a .r .count) (a .top) (l .k) _ (stepsIn (l .t)) (omega arith) (c .if1 .taken) (i .6))
 
--- src/lib.rt:85:9
 add-k : tie.Need-add-k Inv-loop μ-loop
 add-k c = omega arith
 
--- src/lib.rt:86:20
 moved-requires : tie.Need-moved-requires Inv-loop μ-loop
 unfolding stepIn
 moved-requires c κs =
     let l = c .before .before .before .before .loop in
     (omega arith, omega (arith, parent-low (c .before .before .before .before .before .args .t2) (l .inv .5) (l .k) (omega arith)))
 
--- src/lib.rt:86:9
-put-requires : tie.Need-put-requires Inv-loop μ-loop
-put-requires c κs = (omega arith, omega arith)
+mul-t11 : tie.Need-mul-t11 Inv-loop μ-loop
+mul-t11 c = omega arith
 
--- src/lib.rt:80:5
+element-set-from-t : tie.Need-element-set-from-t Inv-loop μ-loop
+element-set-from-t c = omega arith
+
+add-t : tie.Need-add-t Inv-loop μ-loop
+add-t c = omega arith
+
 loop-less : tie.Need-loop-less Inv-loop μ-loop
 loop-less c = omega arith
 
--- src/lib.rt:80:5
 loop-again : tie.Need-loop-again Inv-loop μ-loop
 unfolding stepIn
 loop-again c =
-    let a = c .before .before .before .before .before .before .before .args in
-    let l = c .before .before .before .before .before .before .loop in
+    let a = c .before .before .before .before .before .before .args in
+    let l = c .before .before .before .before .before .loop in
     let i = l .inv in
-    let r = c .put .ensures in
+    let r = one-more (l .t) (c .moved .result) _ (omega arith) (i .2) refl refl in
     let s = movedStep (a .v) (a .r .count) (a .top) (stepIn (a .t2) (l .k)) in
-    let m : c .before .moved .result ≡ s = c .before .moved .ensures in
-    let next = copy-step (a .t2) (i .5) (a .v) (a .r .count) (a .top) (l .k) _ (stepsIn (l .t)) (omega arith) (c .before .before .if1 .left) (i .6) in (
+    let m : c .moved .result ≡ s = c .moved .ensures in
+    let next = copy-step (a .t2) (i .5) (a .v) (a .r .count) (a .top) (l .k) _ (stepsIn (l .t)) (omega arith) (c .before .if1 .left) (i .6) in
+    let same : after (stepsIn (l .t)) (c .moved .result) ≡ after (stepsIn (l .t)) s = ap (after (stepsIn (l .t))) m in (
       omega arith,
       omega arith,
       r .full,
-      omega (arith, r .number, after-number (l .t) (c .before .moved .result) (omega arith) (i .2)),
+      omega arith,
       omega arith,
       i .5,
-      rw (r .steps, m) next,
+      ap (λ (ss : List Step). withRest (a .v) (a .r .count) (a .top) ss (stepsIn (a .t2)) (l .k + 1)) (r .steps ∙ same) ∙ next,
     )
 
--- src/lib.rt:73:1
 returns-2 : tie.Need-returns-2 Inv-loop μ-loop
 returns-2 c =
     let a = c .before .before .args in
@@ -121,7 +114,9 @@ copied-spec =
     returns
     add-k
     moved-requires
-    put-requires
+    mul-t11
+    element-set-from-t
+    add-t
     loop-less
     loop-again
     returns-2)

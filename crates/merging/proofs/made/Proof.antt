@@ -8,20 +8,13 @@ use Rattle.merging.specs.Branches.{root-children}
 use borrow.Author.Needs.{needs}
 use Rattle.merging.proofs.made.Statement.{statement}
 use Rattle.merging.proofs.made.Tie as tie
-use Rattle.merging.proofs.made.Reads as reads
-use Rattle.merging.proofs.made.Lts as lts
-use Rattle.merging.proofs.copied.Reads as copied-reads
-use Rattle.merging.proofs.one.Reads as one-reads
 
--- src/lib.rt:277:25
 one-requires : tie.Need-one-requires
 one-requires c κs = search needs
 
--- src/lib.rt:277:18
 copied-requires : tie.Need-copied-requires
 copied-requires c κs = search needs
 
--- src/lib.rt:271:1
 returns : tie.Need-returns
 unfolding axisOf
 returns c =

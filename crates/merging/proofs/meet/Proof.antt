@@ -4,28 +4,18 @@ use Rattle.merging.specs.Candidates.{body-count, candidate, only-branch,
 use borrow.Author.Needs.{needs}
 use Rattle.merging.proofs.meet.Statement.{statement}
 use Rattle.merging.proofs.meet.Tie as tie
-use Rattle.merging.proofs.meet.Reads as reads
-use Rattle.merging.proofs.meet.Lts as lts
-use Rattle.merging.proofs.axis_number.Reads as axis-number-reads
-use Rattle.merging.proofs.branch.Reads as branch-reads
-use Rattle.merging.proofs.either.Reads as either-reads
-use Rattle.merging.proofs.offer.Reads as offer-reads
 
--- src/lib.rt:167:30
 axis-number-requires : tie.Need-axis-number-requires
 axis-number-requires c κs = search needs
 
--- src/lib.rt:167:9
 branch-requires : tie.Need-branch-requires
 branch-requires c κs =
     let s = c .before .before .before in
     (s .pre .2 .stands .sound, omega arith, body-count (s .args .body) (bodyIn (s .args .body)) (s .pre .2), c .axis-number .ensures .1)
 
--- src/lib.rt:168:9
 either-requires : tie.Need-either-requires
 either-requires c κs = search needs
 
--- src/lib.rt:169:5
 offer-requires : tie.Need-offer-requires
 offer-requires c κs =
     let s = c .before .before .before .before .before in
@@ -35,7 +25,6 @@ offer-requires c κs =
     let k = candidate (a .body) (bodyIn (a .body)) (s .pre .2) (m .result) (a .both) (x .result) (x .ensures .0) (m .ensures) in
     (s .pre .0, s .pre .1, only-branch (m .result) _ k)
 
--- src/lib.rt:161:1
 returns : tie.Need-returns
 returns c =
     let s = c .before .before .before .before .before .before in

@@ -6,32 +6,23 @@ use Rattle.merging.specs.Merges.{merges-first, merges-second, merges-bui
 use borrow.Author.Needs.{needs}
 use Rattle.merging.proofs.merge.Statement.{statement}
 use Rattle.merging.proofs.merge.Tie as tie
-use Rattle.merging.proofs.merge.Reads as reads
-use Rattle.merging.proofs.merge.Lts as lts
-use Rattle.covering.proofs.covers.Reads as covers-reads
-use Rattle.merging.proofs.build_at.Reads as build-at-reads
 
--- src/lib.rt:362:8
 covers-requires : tie.Need-covers-requires
 covers-requires c κs = search needs
 
--- src/lib.rt:363:9
 returns : tie.Need-returns
 returns c =
     let s = c .before .before in
     merges-first (s .args .p) (s .args .q) (c .before .covers .result) true (c .before .covers .ensures) (s .pre .0) (c .if1 .taken)
 
--- src/lib.rt:368:8
 covers-requires-2 : tie.Need-covers-requires-2
 covers-requires-2 c κs = search needs
 
--- src/lib.rt:369:9
 returns-2 : tie.Need-returns-2
 returns-2 c =
     let s = c .before .before .before .before in
     merges-second (s .args .p) (s .args .q) (c .before .before .before .covers .result) (c .before .covers2 .result) (c .before .before .before .covers .ensures) (c .before .before .if1 .left) (c .before .covers2 .ensures) (s .pre .1) (c .if2 .taken)
 
--- src/lib.rt:378:5
 build-at-requires : tie.Need-build-at-requires
 build-at-requires c κs =
     let s = c .before .before .before .before .before .before .before in (
@@ -41,7 +32,6 @@ build-at-requires c κs =
       omega arith,
     )
 
--- src/lib.rt:358:1
 returns-3 : tie.Need-returns-3
 returns-3 c =
     let s = c .before .before .before .before .before .before .before .before in

@@ -4,31 +4,23 @@ use Rattle.merging.specs.Copying.{movedStep}
 use borrow.Author.Needs.{needs}
 use Rattle.merging.proofs.moved.Statement.{statement}
 use Rattle.merging.proofs.moved.Tie as tie
-use Rattle.merging.proofs.moved.Reads as reads
-use Rattle.merging.proofs.moved.Lts as lts
 
--- src/lib.rt:56:18
 cast-parent : tie.Need-cast-parent
 cast-parent c = search needs
 
--- src/lib.rt:65:22
 sub-t8 : tie.Need-sub-t8
 sub-t8 c = search needs
 
--- src/lib.rt:65:22
 add-t9 : tie.Need-add-t9
 add-t9 c = search needs
 
--- src/lib.rt:65:21
 cast-t10 : tie.Need-cast-t10
 cast-t10 c = search needs
 
--- src/lib.rt:52:1
 returns : tie.Need-returns
 unfolding movedStep pick
 returns c = rw (eq-eqb _ _ (c .if1 .taken))
 
--- src/lib.rt:52:1
 returns-2 : tie.Need-returns-2
 unfolding movedStep pick
 returns-2 c = rw (ne-eqb _ _ (c .if1 .left))

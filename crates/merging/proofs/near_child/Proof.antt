@@ -2,18 +2,13 @@ use Rattle.merging.specs.Scanning.{near-if, near-not}
 use borrow.Author.Needs.{needs}
 use Rattle.merging.proofs.near_child.Statement.{statement}
 use Rattle.merging.proofs.near_child.Tie as tie
-use Rattle.merging.proofs.near_child.Reads as reads
-use Rattle.merging.proofs.near_child.Lts as lts
 
--- src/lib.rt:238:8
 cast-if1 : tie.Need-cast-if1
 cast-if1 c = search needs
 
--- src/lib.rt:235:1
 returns : tie.Need-returns
 returns c = near-if (c .before .before .before .args .s) (c .before .before .before .args .w) (c .before .if1 .taken)
 
--- src/lib.rt:235:1
 returns-2 : tie.Need-returns-2
 returns-2 c = near-not (c .before .before .args .s) (c .before .before .args .w) (c .if1 .left)
 

@@ -3,10 +3,7 @@ use mathlib.Core.Path.{refl}
 use Rattle.shapes.specs.Shapes.{stepsIn}
 use Rattle.merging.proofs.one.Statement.{statement}
 use Rattle.merging.proofs.one.Tie as tie
-use Rattle.merging.proofs.one.Reads as reads
-use Rattle.merging.proofs.one.Lts as lts
 
--- src/lib.rt:26:1
 returns : tie.Need-returns
 unfolding stepsIn
 returns c = record { steps = refl; number = refl; few = omega arith; full = refl }

@@ -1,5 +1,5 @@
 use Prim.Native.Nat.{_-_, _≤_}
-use mathlib.Core.Path.{_≡_, refl, subst}
+use mathlib.Core.Path.{_≡_, refl}
 use native.Mathlib.Omega.{arith}
 use lib.Dec.{eqb}
 use lib.ListN.{replicate}
@@ -9,9 +9,6 @@ use Rattle.covering.specs.Turns.{stepIn}
 use Rattle.merging.specs.Packing.{Written, stepSet, written-starts, written-step}
 use Rattle.merging.proofs.pack.Statement.{statement}
 use Rattle.merging.proofs.pack.Tie as tie
-use Rattle.merging.proofs.pack.Reads as reads
-use Rattle.merging.proofs.pack.Lts as lts
-use Rattle.merging.proofs.mark_number.Reads as mark-number-reads
 
 abbrev Inv-loop : tie.InvT-loop
 Inv-loop p mark bytes₀ k₀ bytes k = Written p (eqb mark 1) bytes k × SoundPattern p × (k ≤ p .count)
@@ -19,82 +16,63 @@ Inv-loop p mark bytes₀ k₀ bytes k = Written p (eqb mark 1) bytes k × SoundP
 abbrev μ-loop : tie.MeasureT-loop
 μ-loop p mark bytes₀ k₀ bytes k = p .count - k
 
--- src/lib.rt:194:9
 mark-number-requires : tie.Need-mark-number-requires Inv-loop μ-loop
 mark-number-requires c κs = search needs
 
--- src/lib.rt:196:16
 cast-bytes : tie.Need-cast-bytes Inv-loop μ-loop
 cast-bytes c = search needs
 
--- src/lib.rt:196:5
 array-write-bytes : tie.Need-array-write-bytes Inv-loop μ-loop
 array-write-bytes c = omega arith
 
--- src/lib.rt:197:5
 array-write-bytes-2 : tie.Need-array-write-bytes-2 Inv-loop μ-loop
 array-write-bytes-2 c = omega arith
 
--- src/lib.rt:199:5
 loop-holds : tie.Need-loop-holds Inv-loop μ-loop
 loop-holds c =
     let p = c .before .before .args .b .pattern in
     let h = c .before .before .pre in
     (written-starts p h (eqb (c .mark-number .result) 1) (replicate 50 0) (c .mark-number .result) refl refl, h, omega arith)
 
--- src/lib.rt:200:17
 mul-s : tie.Need-mul-s Inv-loop μ-loop
 mul-s c = omega arith
 
--- src/lib.rt:200:17
 element-copy-out-s : tie.Need-element-copy-out-s Inv-loop μ-loop
 element-copy-out-s c = omega arith
 
--- src/lib.rt:201:19
 mul-bytes : tie.Need-mul-bytes Inv-loop μ-loop
 mul-bytes c = omega arith
 
--- src/lib.rt:201:15
 add-bytes : tie.Need-add-bytes Inv-loop μ-loop
 add-bytes c = omega arith
 
--- src/lib.rt:201:9
 array-write-bytes-3 : tie.Need-array-write-bytes-3 Inv-loop μ-loop
 array-write-bytes-3 c = omega arith
 
--- src/lib.rt:202:19
 mul-bytes-2 : tie.Need-mul-bytes-2 Inv-loop μ-loop
 mul-bytes-2 c = omega arith
 
--- src/lib.rt:202:15
 add-bytes-2 : tie.Need-add-bytes-2 Inv-loop μ-loop
 add-bytes-2 c = omega arith
 
--- src/lib.rt:202:9
 array-write-bytes-4 : tie.Need-array-write-bytes-4 Inv-loop μ-loop
 array-write-bytes-4 c = omega arith
 
--- src/lib.rt:203:19
 mul-bytes-3 : tie.Need-mul-bytes-3 Inv-loop μ-loop
 mul-bytes-3 c = omega arith
 
--- src/lib.rt:203:15
 add-bytes-3 : tie.Need-add-bytes-3 Inv-loop μ-loop
 add-bytes-3 c = omega arith
 
--- src/lib.rt:203:9
 array-write-bytes-5 : tie.Need-array-write-bytes-5 Inv-loop μ-loop
 array-write-bytes-5 c = omega arith
 
--- src/lib.rt:204:9
 add-k : tie.Need-add-k Inv-loop μ-loop
 add-k c = omega arith
 
--- src/lib.rt:199:5
 loop-less : tie.Need-loop-less Inv-loop μ-loop
 loop-less c = omega arith
 
--- src/lib.rt:199:5
 loop-again : tie.Need-loop-again Inv-loop μ-loop
 unfolding stepIn stepSet
 loop-again c =
@@ -102,7 +80,6 @@ loop-again c =
     let l = c .before .before .loop in
     (written-step p (l .inv .1) (eqb (c .before .before .before .mark-number .result) 1) (l .bytes) (l .k) (omega arith) (l .inv .0), l .inv .1, omega arith)
 
--- src/lib.rt:189:1
 returns : tie.Need-returns Inv-loop μ-loop
 returns c =
     let b = c .before .before .before .before .args .b in

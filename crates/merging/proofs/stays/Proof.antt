@@ -1,5 +1,4 @@
 use Prim.Native.Nat.{_-_}
-use mathlib.Core.Path.{refl}
 use native.Mathlib.Omega.{arith}
 use borrow.Author.Needs.{needs}
 use borrow.Author.Tests.{not-true, not-false}
@@ -9,12 +8,6 @@ use Rattle.merging.specs.Branches.{copied-beside}
 use Rattle.merging.specs.Staying.{branchAt, Left, turn, left-starts, branch-fits, left-goes, left-remains, left-done}
 use Rattle.merging.proofs.stays.Statement.{statement}
 use Rattle.merging.proofs.stays.Tie as tie
-use Rattle.merging.proofs.stays.Reads as reads
-use Rattle.merging.proofs.stays.Lts as lts
-use Rattle.covering.proofs.covers.Reads as covers-reads
-use Rattle.merging.proofs.branch.Reads as branch-reads
-use Rattle.merging.proofs.copied.Reads as copied-reads
-use Rattle.shapes.proofs.no_steps.Reads as no-steps-reads
 
 abbrev Inv-loop : tie.InvT-loop
 Inv-loop c kept r₀ k₀ r k = Left kept (patternOf c) k r × SoundPattern kept × SoundPattern c
@@ -22,27 +15,21 @@ Inv-loop c kept r₀ k₀ r k = Left kept (patternOf c) k r × SoundPattern kept
 abbrev μ-loop : tie.MeasureT-loop
 μ-loop c kept r₀ k₀ r k = kept .count - k
 
--- src/lib.rt:106:9
 no-steps-requires : tie.Need-no-steps-requires Inv-loop μ-loop
 no-steps-requires c κs = search needs
 
--- src/lib.rt:108:5
 loop-holds : tie.Need-loop-holds Inv-loop μ-loop
 loop-holds c = (left-starts (c .before .args .t1) (c .before .pre .0) (patternOf (c .before .args .c)) (c .no-steps .result) (c .no-steps .ensures), c .before .pre .0, c .before .pre .1)
 
--- src/lib.rt:109:17
 mul-s : tie.Need-mul-s Inv-loop μ-loop
 mul-s c = omega arith
 
--- src/lib.rt:109:17
 element-copy-out-s : tie.Need-element-copy-out-s Inv-loop μ-loop
 element-copy-out-s c = omega arith
 
--- src/lib.rt:110:30
 add-branch : tie.Need-add-branch Inv-loop μ-loop
 add-branch c = omega arith
 
--- src/lib.rt:110:13
 branch-requires : tie.Need-branch-requires Inv-loop μ-loop
 unfolding stepIn branchAt
 branch-requires c κs =
@@ -50,7 +37,6 @@ branch-requires c κs =
     let o = turn (c .before .before .before .before .args .t1) (l .inv .1) (l .k) (omega arith) (l .inv .0 .rest) (l .inv .0 .begins) in
     (l .inv .1, omega arith, omega arith, o .axis)
 
--- src/lib.rt:111:9
 add-k : tie.Need-add-k Inv-loop μ-loop
 unfolding stepIn branchAt
 add-k c =
@@ -60,11 +46,9 @@ add-k c =
     let f = branch-fits (a .t1) (l .inv .1) (patternOf (a .c)) (l .k) (omega arith) (l .r) (b .result) (l .inv .0) (b .ensures) in
     omega (arith, f, l .inv .1 .few)
 
--- src/lib.rt:112:13
 covers-requires : tie.Need-covers-requires Inv-loop μ-loop
 covers-requires c κs = (c .before .branch .ensures .sound, c .before .before .before .before .loop .inv .2)
 
--- src/lib.rt:113:13
 copied-requires : tie.Need-copied-requires Inv-loop μ-loop
 unfolding stepIn branchAt
 copied-requires c κs =
@@ -74,7 +58,6 @@ copied-requires c κs =
     let f = branch-fits (a .t1) (l .inv .1) (patternOf (a .c)) (l .k) (omega arith) (l .r) (b .result) (l .inv .0) (b .ensures) in
     (b .ensures .sound, l .inv .0 .sound .full, omega arith, omega (arith, f, l .inv .1 .few, l .inv .0 .few))
 
--- src/lib.rt:108:5
 loop-less : tie.Need-loop-less Inv-loop μ-loop
 unfolding stepIn branchAt
 loop-less c =
@@ -84,7 +67,6 @@ loop-less c =
     let f = branch-fits (a .t1) (l .inv .1) (patternOf (a .c)) (l .k) (omega arith) (l .r) (b .result) (l .inv .0) (b .ensures) in
     omega (arith, f)
 
--- src/lib.rt:108:5
 loop-again : tie.Need-loop-again Inv-loop μ-loop
 unfolding stepIn branchAt
 loop-again c =
@@ -94,7 +76,6 @@ loop-again c =
     let v = c .before .before .covers in
     (left-remains (a .t1) (l .inv .1) (patternOf (a .c)) (l .k) (omega arith) (l .r) (b .result) (l .inv .0) (b .ensures) (v .result) (v .ensures) (not-true (v .result) (c .before .if1 .taken)) (c .copied .result) (copied-beside (l .r) (b .result) (c .copied .result) (l .inv .0 .sound) (c .copied .ensures)), l .inv .1, l .inv .2)
 
--- src/lib.rt:108:5
 loop-less-2 : tie.Need-loop-less-2 Inv-loop μ-loop
 unfolding stepIn branchAt
 loop-less-2 c =
@@ -104,7 +85,6 @@ loop-less-2 c =
     let f = branch-fits (a .t1) (l .inv .1) (patternOf (a .c)) (l .k) (omega arith) (l .r) (b .result) (l .inv .0) (b .ensures) in
     omega (arith, f)
 
--- src/lib.rt:108:5
 loop-again-2 : tie.Need-loop-again-2 Inv-loop μ-loop
 unfolding stepIn branchAt
 loop-again-2 c =
@@ -114,7 +94,6 @@ loop-again-2 c =
     let v = c .before .covers in
     (left-goes (a .t1) (l .inv .1) (patternOf (a .c)) (l .k) (omega arith) (l .r) (b .result) (l .inv .0) (b .ensures) (v .result) (v .ensures) (not-false (v .result) (c .if1 .left)), l .inv .1, l .inv .2)
 
--- src/lib.rt:102:1
 returns : tie.Need-returns Inv-loop μ-loop
 returns c = left-done (c .before .before .before .args .t1) (c .before .loop .inv .1) (patternOf (c .before .before .before .args .c)) (c .before .loop .k) (c .before .loop .r) (omega arith) (c .before .loop .inv .0)
 

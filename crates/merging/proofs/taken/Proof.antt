@@ -4,15 +4,10 @@ use Rattle.merging.specs.Bodies.{bodyAt}
 use borrow.Author.Needs.{needs}
 use Rattle.merging.proofs.taken.Statement.{statement}
 use Rattle.merging.proofs.taken.Tie as tie
-use Rattle.merging.proofs.taken.Reads as reads
-use Rattle.merging.proofs.taken.Lts as lts
-use Rattle.merging.proofs.branch.Reads as branch-reads
 
--- src/lib.rt:258:18
 branch-requires : tie.Need-branch-requires
 branch-requires c κs = search needs
 
--- src/lib.rt:253:1
 returns : tie.Need-returns
 unfolding bodyAt axisOf
 returns c = record { stands = c .branch .ensures; mark = refl }
