@@ -11,3 +11,4 @@ pub mod Numbering
 pub mod Scanning
 pub mod Loops
 pub mod Standing
+pub mod Along

@@ -106,7 +106,7 @@ fn nodes(d: &[u8], known: usize, x: usize) -> Cur
 }
 
 // Where a document ends, beside a sheet of k labels that was judged, or its first fault.
-fn document(s: &[u8], k: usize, d: &[u8]) -> Cur
+pub fn document(s: &[u8], k: usize, d: &[u8]) -> Cur
     requires { ⌜ k < 256 ⌝ }
     ensures { λ r. ⌜ r ≡ documentPlace (now (s .entry)) k (now (d .entry)) ⌝ }
 {

@@ -6,3 +6,4 @@ pub mod LabelsRead
 pub mod StepsRead
 pub mod SheetRead
 pub mod NumberRead
+pub mod Judged

@@ -1,0 +1,76 @@
+-- `fairness::all_fit` meets its contract: what is left from entry j on gives what all entries give.
+use Prim.Native.Nat.{_-_, _≤_}
+use mathlib.Core.Path.{_≡_, refl}
+use native.Mathlib.Omega.{arith}
+use borrow.Author.Needs.{needs}
+use borrow.Author.Tests.{not-true, not-false}
+use lib.ListN.{drop}
+use Rattle.base.specs.Lists.{every}
+use Rattle.base.specs.Along.{every-goes-on, every-stops, every-ends}
+use Rattle.tables.specs.Standing.{tableAt, noEntry, entry-here}
+use Rattle.fairness.specs.Each.{isFit, fit-here}
+use Rattle.fairness.proofs.all_fit.Statement.{statement}
+use Rattle.fairness.proofs.all_fit.Tie as tie
+
+abbrev Inv-loop : tie.InvT-loop
+Inv-loop t n entries j₀ j = (j ≤ entries .count) × (every (isFit n) (drop j (tableAt t)) ≡ every (isFit n) (tableAt t))
+
+abbrev μ-loop : tie.MeasureT-loop
+μ-loop t n entries j₀ j = entries .count - j
+
+loop-holds : tie.Need-loop-holds Inv-loop μ-loop
+loop-holds c = (omega arith, refl)
+
+mul-entry-at : tie.Need-mul-entry-at Inv-loop μ-loop
+mul-entry-at c = omega (arith, c .before .before .before .pre .0 .few)
+
+element-copy-out-entry-at : tie.Need-element-copy-out-entry-at Inv-loop μ-loop
+element-copy-out-entry-at c = omega (arith, c .before .before .before .pre .0 .few)
+
+entry-at-requires : tie.Need-entry-at-requires Inv-loop μ-loop
+entry-at-requires c κs = search needs
+
+members-fit-requires : tie.Need-members-fit-requires Inv-loop μ-loop
+members-fit-requires c κs = c .before .before .before .before .before .pre .1
+
+returns : tie.Need-returns Inv-loop μ-loop
+returns c =
+    let l = c .before .before .before .before .before in
+    let stand = l .before .before .pre .0 in
+    let here = entry-here _ _ stand (l .loop .j) _ (omega arith) (c .before .before .entry-at .ensures) in
+    every-stops _ _ noEntry (l .loop .j) _ (l .loop .inv .1) (omega (arith, stand .counted)) (fit-here _ _ _ _ _ (here .0) (c .before .members-fit .ensures) (not-true _ (c .if1 .taken)))
+
+add-j : tie.Need-add-j Inv-loop μ-loop
+add-j c = omega (arith, c .before .before .before .before .before .before .before .pre .0 .few)
+
+loop-less : tie.Need-loop-less Inv-loop μ-loop
+loop-less c = omega arith
+
+loop-again : tie.Need-loop-again Inv-loop μ-loop
+loop-again c =
+    let l = c .before .before .before .before .before in
+    let stand = l .before .before .pre .0 in
+    let here = entry-here _ _ stand (l .loop .j) _ (omega arith) (c .before .before .entry-at .ensures) in (
+      omega arith,
+      every-goes-on _ _ noEntry (l .loop .j) _ (l .loop .inv .1) (omega (arith, stand .counted)) (fit-here _ _ _ _ _ (here .0) (c .before .members-fit .ensures) (not-false _ (c .if1 .left))),
+    )
+
+returns-2 : tie.Need-returns-2 Inv-loop μ-loop
+returns-2 c = every-ends _ _ noEntry (c .before .loop .j) _ (c .before .loop .inv .1) (omega (arith, c .before .before .before .pre .0 .counted))
+
+pub all-fit-spec : {M : Type 1} → statement M
+all-fit-spec =
+    tie.close
+    (tie.spec
+    Inv-loop
+    μ-loop
+    loop-holds
+    mul-entry-at
+    element-copy-out-entry-at
+    entry-at-requires
+    members-fit-requires
+    returns
+    add-j
+    loop-less
+    loop-again
+    returns-2)

@@ -1,0 +1,23 @@
+-- `fairness::is_fair` meets its contract: the entries first, then each subscription.
+use borrow.Author.Tests.{not-true, not-false}
+use Rattle.fairness.specs.Judged.{not-fit, all-fit}
+use Rattle.fairness.proofs.is_fair.Statement.{statement}
+use Rattle.fairness.proofs.is_fair.Tie as tie
+
+all-fit-requires : tie.Need-all-fit-requires
+all-fit-requires c κs =
+    let pre = c .before .before .pre in
+    (pre .1, pre .0 .few)
+
+returns : tie.Need-returns
+returns c = not-fit _ _ _ _ (c .before .before .before .before .pre .0 .counted) (c .before .all-fit .ensures) (not-true _ (c .if1 .taken))
+
+all-stand-requires : tie.Need-all-stand-requires
+all-stand-requires c κs = c .before .before .before .before .pre
+
+returns-2 : tie.Need-returns-2
+returns-2 c =
+    all-fit _ _ _ _ _ (c .before .before .before .before .before .pre .0 .counted) (c .before .before .all-fit .ensures) (not-false _ (c .before .if1 .left)) (c .all-stand .ensures)
+
+pub is-fair-spec : {M : Type 1} → statement M
+is-fair-spec = tie.close (tie.spec all-fit-requires returns all-stand-requires returns-2)

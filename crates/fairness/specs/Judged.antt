@@ -1,0 +1,124 @@
+-- A table judged by places beside its sheet: its bytes first, then whether it is fair.
+use Prim.Native.Nat.{ℕ}
+use mathlib.Core.Path.{_≡_, refl, sym, ap, _∙_}
+use mathlib.Core.Bool.{Bool, true, false, _&&_}
+use mathlib.Core.List.{List}
+use lib.ListN.{length, getD, drop}
+use Rattle.base.specs.Lists.{every}
+use Rattle.base.specs.Choice.{pick}
+use Rattle.base.specs.Loops.{andThen}
+use Rattle.base.specs.declared.Cur.{Cur}
+use Rattle.base.specs.declared.Cur.the-variants.{At, No}
+use Rattle.meaning.specs.Reader.{go-on, _>>=_, _>>_, give, unless, numberOf}
+use Rattle.meaning.specs.Sections.{Sheet, sheet, Entry}
+use Rattle.meaning.specs.Fair.{fair, eachInOne}
+use Rattle.meaning.specs.Calls.{judged, fairTable, tableNumber}
+use Rattle.reading.specs.Places.{sheetAt}
+use Rattle.reading.specs.Judging.{sheetPlace, numberAt}
+use Rattle.reading.specs.Answer.{answer, then-answer, number-of-answer, passed-on}
+use Rattle.reading.specs.Judged.{reached, judged-answer, sheet-judged, reached-twice, sheet-stands}
+use Rattle.reading.specs.SheetRead.{after-sheet}
+use Rattle.patterns.specs.declared.Subscriptions.{Subscriptions}
+use Rattle.patterns.specs.Taken.{subscriptionsOf}
+use Rattle.patterns.specs.Subscribed.{SubscriptionsStand, subscriptions-stand}
+use Rattle.tables.specs.declared.Entries.{Entries}
+use Rattle.tables.specs.Judging.{tablePlace, bothPlace, entriesOf}
+use Rattle.tables.specs.TableRead.{table-read}
+use Rattle.tables.specs.Standing.{tableAt, EntriesStand, entries-stand}
+use Rattle.fairness.specs.Each.{isFit, fair-parts}
+
+-- whether the table is fair beside the sheet, as they stand
+unfoldable pub fairAt : List ℕ → List ℕ → Bool
+fairAt s t = fair (sheetAt s .patterns) (tableAt t)
+
+-- where the table ends, or the number of its first fault; 12 last
+unfoldable pub fairTablePlace : List ℕ → List ℕ → Cur
+fairTablePlace s t = andThen (tablePlace t (getD s 0 0)) (λ x. pick (fairAt s t) (At x) (No 12))
+
+-- the sheet first
+unfoldable pub fairPlace : List ℕ → List ℕ → Cur
+fairPlace s t = andThen (sheetPlace s) (λ x. fairTablePlace s t)
+
+-- a table that passes the table check
+fair-table-read : (s t : List ℕ) → fairTable (sheetAt s) t ≡ answer t (tableAt t) (fairTablePlace s t)
+unfolding fairTable fairTablePlace fairAt tableAt _>>=_ _>>_ give unless go-on answer pick
+fair-table-read s t =
+    rw (table-read s t)
+    (then-answer t (tableAt t) (tableAt t) (tablePlace t (getD s 0 0)) (λ es. _>>_ (unless 12 (fair (sheetAt s .patterns) es)) (give es)) (λ x. pick (fairAt s t) (At x) (No 12)) (λ x e. go x (fairAt s t)))
+  where
+    go : (x : ℕ) (b : Bool) → go-on (unless 12 b (drop x t)) (λ u. give (tableAt t)) ≡ answer t (tableAt t) (pick b (At x) (No 12))
+    go x true = refl
+    go x false = refl
+
+module _ {B : Type 0} (s t : List ℕ) (refuse : ℕ → B) where
+  -- a table beside its sheet is answered by its place
+  pub fair-table-judged : (next : List Entry → B) → judged (fairTable (sheetAt s) t) refuse next ≡ reached (fairTablePlace s t) refuse (next (tableAt t))
+  fair-table-judged next = rw (fair-table-read s t) (judged-answer t (tableAt t) (fairTablePlace s t) refuse next)
+
+  -- the sheet first, then the table
+  pub fair-judged : (next : Sheet → List Entry → B) → judged (sheet s) refuse (λ sh. judged (fairTable sh t) refuse (next sh)) ≡ reached (fairPlace s t) refuse (next (sheetAt s) (tableAt t))
+  unfolding fairPlace
+  fair-judged next =
+      sheet-judged s refuse (λ sh. judged (fairTable sh t) refuse (next sh))
+      ∙ ap (reached (sheetPlace s) refuse) (fair-table-judged (next (sheetAt s)))
+      ∙ reached-twice (sheetPlace s) (fairTablePlace s t) refuse (next (sheetAt s) (tableAt t))
+
+-- the number of a table
+pub table-number : (s t : List ℕ) → numberAt (fairPlace s t) ≡ tableNumber s t
+unfolding tableNumber fairPlace
+table-number s t = after-sheet s (λ sh. numberOf (fairTable sh t)) (fairTablePlace s t) (ap numberOf (fair-table-read s t) ∙ number-of-answer t (tableAt t) (fairTablePlace s t))
+
+-- ---- as it is asked
+
+-- not fair where an entry does not fit
+pub not-fit : (s t : List ℕ) (n : ℕ) (r : Bool) → n ≡ length (sheetAt s .patterns) → r ≡ every (isFit n) (tableAt t) → r ≡ false → false ≡ fairAt s t
+unfolding fairAt
+not-fit s t n r e h k =
+    let so : every (isFit (length (sheetAt s .patterns))) (tableAt t) ≡ false = rw (← e) (sym h ∙ k) in
+    sym (ap (λ (b : Bool). b && eachInOne 0 (sheetAt s .patterns) (tableAt t)) so) ∙ fair-parts (sheetAt s .patterns) (tableAt t)
+
+-- otherwise fair where each subscription stands in one that covers it
+pub all-fit : (s t : List ℕ) (n : ℕ) (r q : Bool) → n ≡ length (sheetAt s .patterns) → r ≡ every (isFit n) (tableAt t) → r ≡ true → q ≡ eachInOne 0 (sheetAt s .patterns) (tableAt t) → q ≡ fairAt s t
+unfolding fairAt
+all-fit s t n r q e h k l =
+    let so : every (isFit (length (sheetAt s .patterns))) (tableAt t) ≡ true = rw (← e) (sym h ∙ k) in
+    l ∙ sym (ap (λ (b : Bool). b && eachInOne 0 (sheetAt s .patterns) (tableAt t)) so) ∙ fair-parts (sheetAt s .patterns) (tableAt t)
+
+module _ (s t : List ℕ) where
+  -- where both were judged, subscriptions and entries stand
+  pub both-stand : (y : ℕ) (v : Subscriptions) (w : Entries) → bothPlace s t ≡ At y → v ≡ subscriptionsOf s → w ≡ entriesOf t → SubscriptionsStand s v × EntriesStand t w
+  unfolding bothPlace
+  both-stand y v w h e f =
+      let a = passed-on (sheetPlace s) _ y h in
+      let sound = sheet-stands s (a .0) (a .1) in
+      (subscriptions-stand s v sound e, entries-stand s t y w sound (a .2) f)
+
+  -- the bytes of both first, 12 last
+  last : fairPlace s t ≡ andThen (bothPlace s t) (λ x. pick (fairAt s t) (At x) (No 12))
+  unfolding fairPlace fairTablePlace bothPlace andThen
+  last = go (sheetPlace s)
+    where
+      go : (c : Cur) → andThen c (λ x. andThen (tablePlace t (getD s 0 0)) (λ y. pick (fairAt s t) (At y) (No 12))) ≡ andThen (andThen c (λ x. tablePlace t (getD s 0 0))) (λ y. pick (fairAt s t) (At y) (No 12))
+      go (At x) = refl
+      go (No n) = refl
+
+  -- the table is fair
+  pub place-fair : (y : ℕ) (r : Bool) → bothPlace s t ≡ At y → r ≡ fairAt s t → r ≡ true → At y ≡ fairPlace s t
+  unfolding andThen pick
+  place-fair y r h e k = sym (last ∙ rw (h, ← e, k))
+
+  -- it is not
+  pub place-not-fair : (y : ℕ) (r : Bool) → bothPlace s t ≡ At y → r ≡ fairAt s t → r ≡ false → No 12 ≡ fairPlace s t
+  unfolding andThen pick
+  place-not-fair y r h e k = sym (last ∙ rw (h, ← e, k))
+
+  -- the bytes are refused
+  pub place-refused : (m : ℕ) → bothPlace s t ≡ No m → No m ≡ fairPlace s t
+  unfolding andThen
+  place-refused m h = sym (last ∙ rw h)
+
+  -- where the table check was passed, subscriptions and entries stand
+  pub fair-stand : (y : ℕ) (v : Subscriptions) (w : Entries) → fairPlace s t ≡ At y → v ≡ subscriptionsOf s → w ≡ entriesOf t → SubscriptionsStand s v × EntriesStand t w
+  fair-stand y v w h e f =
+      let a = passed-on (bothPlace s t) _ y (sym last ∙ h) in
+      both-stand (a .0) v w (a .1) e f

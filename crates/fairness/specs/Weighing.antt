@@ -1,0 +1,60 @@
+-- Whether a subscription is in exactly one entry, which covers it: the entries weighed one after the other.
+use Prim.Native.Nat.{ℕ}
+use mathlib.Core.Path.{_≡_, refl, sym, ap, _∙_}
+use mathlib.Core.Bool.{Bool, true, false}
+use mathlib.Core.List.{List, [], _∷_}
+use lib.Dec.{eqb}
+use Rattle.base.specs.Choice.{pick}
+use Rattle.base.specs.Lists.{keep}
+use Rattle.base.specs.Along.{foldAlong}
+use Rattle.meaning.specs.Forest.{Forest}
+use Rattle.meaning.specs.Sections.{Entry}
+use Rattle.meaning.specs.Covering.{covers}
+use Rattle.meaning.specs.Fair.{hasMember, entriesOf, oneThatCovers}
+
+module _ (i : ℕ) (p : Forest) where
+  -- 0 while no entry has subscription i as a member, 1 after one that covers its pattern, 2 after any other
+  unfoldable pub weighed : Entry → ℕ → ℕ
+  weighed e found = pick (hasMember i e) (pick (eqb found 0) (pick (covers (e .pattern) p) 1 2) 2) found
+
+  -- 2 stays
+  spoilt : (es : List Entry) → foldAlong weighed es 2 ≡ 2
+  unfolding foldAlong weighed pick
+  spoilt [] = refl
+  spoilt (e ∷ es) = go (hasMember i e) (spoilt es)
+    where
+      go : (b : Bool) → foldAlong weighed es 2 ≡ 2 → foldAlong weighed es (pick b 2 2) ≡ 2
+      go true h = h
+      go false h = h
+
+  -- after one that covers, no other may have it
+  after-one : (e : Entry) (es : List Entry) → covers (e .pattern) p ≡ true → eqb (foldAlong weighed es 1) 1 ≡ oneThatCovers p (e ∷ entriesOf i es)
+  unfolding foldAlong weighed oneThatCovers entriesOf keep pick
+  after-one e [] h = sym h
+  after-one e (f ∷ es) h = go (hasMember i f) (after-one e es h)
+    where
+      go : (b : Bool) → eqb (foldAlong weighed es 1) 1 ≡ oneThatCovers p (e ∷ keep (hasMember i) es)
+          → eqb (foldAlong weighed es (pick b 2 1)) 1 ≡ oneThatCovers p (e ∷ pick b (f ∷ keep (hasMember i) es) (keep (hasMember i) es))
+      go true later = ap (λ (n : ℕ). eqb n 1) (spoilt es)
+      go false later = later
+
+  -- one that does not cover is never right
+  not-covered : (e : Entry) (es : List Entry) → covers (e .pattern) p ≡ false → false ≡ oneThatCovers p (e ∷ es)
+  unfolding oneThatCovers
+  not-covered e [] h = sym h
+  not-covered e (f ∷ es) h = refl
+
+  -- exactly one, and it covers
+  pub one-weighed : (es : List Entry) → eqb (foldAlong weighed es 0) 1 ≡ oneThatCovers p (entriesOf i es)
+  unfolding foldAlong weighed oneThatCovers entriesOf keep pick
+  one-weighed [] = refl
+  one-weighed (e ∷ es) = go (hasMember i e) (one-weighed es)
+    where
+      first : (b : Bool) → covers (e .pattern) p ≡ b → eqb (foldAlong weighed es (pick b 1 2)) 1 ≡ oneThatCovers p (e ∷ keep (hasMember i) es)
+      first true h = after-one e es h
+      first false h = ap (λ (n : ℕ). eqb n 1) (spoilt es) ∙ not-covered e (keep (hasMember i) es) h
+
+      go : (b : Bool) → eqb (foldAlong weighed es 0) 1 ≡ oneThatCovers p (keep (hasMember i) es)
+          → eqb (foldAlong weighed es (pick b (pick (covers (e .pattern) p) 1 2) 0)) 1 ≡ oneThatCovers p (pick b (e ∷ keep (hasMember i) es) (keep (hasMember i) es))
+      go true later = first (covers (e .pattern) p) refl
+      go false later = later

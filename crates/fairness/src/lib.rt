@@ -1,0 +1,148 @@
+// The table check: whether a table is fair beside its sheet.
+use base::Cur;
+use covering::covers;
+use patterns::Subscriptions;
+use patterns::pattern_at;
+use patterns::subscriptions_in;
+use shapes::Entry;
+use shapes::Pattern;
+use tables::Entries;
+use tables::both;
+use tables::entries_in;
+use tables::entry_at;
+ghost use Prim.Native.Nat.{_+_, _^_, _≤_, _<_};
+ghost use mathlib.Core.Path.{_≡_};
+ghost use lib.Dec.{eqb};
+ghost use Rattle.base.specs.Lists.{every};
+ghost use Rattle.meaning.specs.Fair.{isMember, entriesOf, oneThatCovers, eachInOne};
+ghost use Rattle.meaning.specs.Calls.{tableNumber};
+ghost use Rattle.shapes.specs.Shapes.{patternOf, entryOf, SoundPattern};
+ghost use Rattle.reading.specs.Places.{sheetAt};
+ghost use Rattle.patterns.specs.Subscribed.{SubscriptionsStand};
+ghost use Rattle.tables.specs.Standing.{tableAt, EntriesStand};
+ghost use Rattle.fairness.specs.Weighing.{weighed};
+ghost use Rattle.fairness.specs.Each.{membersFit, isFit};
+ghost use Rattle.fairness.specs.Judged.{fairAt, fairTablePlace, fairPlace};
+
+// Is subscription i a member?
+pub fn is_member(members: u64, i: usize) -> bool
+    requires { ⌜ i < 64 ⌝ }
+    ensures { λ r. ⌜ r ≡ isMember members i ⌝ }
+{
+    (members >> i) % 2 == 1
+}
+
+// Are there members, and all within the sheet, of n subscriptions?
+fn members_fit(members: u64, n: usize) -> bool
+    requires { ⌜ n ≤ 64 ⌝ }
+    ensures { λ r. ⌜ r ≡ membersFit n members ⌝ }
+{
+    if members == 0 {
+        return false;
+    }
+    if n == 64 {
+        return true;
+    }
+    members < (1 << n)
+}
+
+// No entry is without members, and no member is outside the sheet, of n subscriptions.
+fn all_fit(t: &[u8], entries: Entries, n: usize) -> bool
+    requires { ⌜ EntriesStand (now t) entries × (n ≤ 64) ⌝ }
+    ensures { λ r. ⌜ r ≡ every (isFit n) (tableAt (now (t .entry))) ⌝ }
+{
+    let mut j = 0;
+    while j < entries.count {
+        let e = entry_at(t, entries.places[j]);
+        if !members_fit(e.members, n) {
+            return false;
+        }
+        j += 1;
+    }
+    true
+}
+
+// Weighs an entry for subscription i, whose pattern is p: 0 while no entry has it, 1 after one that covers it, 2 after any
+// other.
+fn weigh(e: Entry, i: usize, p: Pattern, found: u8) -> u8
+    requires { ⌜ (i < 64) × SoundPattern (e .pattern) × SoundPattern p ⌝ }
+    ensures { λ r. ⌜ r ≡ weighed i (patternOf p) (entryOf e) found ⌝ }
+{
+    if !is_member(e.members, i) {
+        return found;
+    }
+    if found != 0 {
+        return 2;
+    }
+    if covers(e.pattern, p) {
+        return 1;
+    }
+    2
+}
+
+// Is subscription i, whose pattern is p, in exactly one entry, and does that entry cover it?
+fn stands(t: &[u8], entries: Entries, i: usize, p: Pattern) -> bool
+    requires { ⌜ EntriesStand (now t) entries × (i < 64) × SoundPattern p ⌝ }
+    ensures { λ r. ⌜ r ≡ oneThatCovers (patternOf p) (entriesOf i (tableAt (now (t .entry)))) ⌝ }
+{
+    let mut found = 0;
+    let mut j = 0;
+    while j < entries.count {
+        let e = entry_at(t, entries.places[j]);
+        found = weigh(e, i, p, found);
+        j += 1;
+    }
+    found == 1
+}
+
+// Is each subscription in exactly one entry, and does that entry cover it?
+fn all_stand(s: &[u8], subscriptions: Subscriptions, t: &[u8], entries: Entries) -> bool
+    requires { ⌜ SubscriptionsStand (now s) subscriptions × EntriesStand (now t) entries ⌝ }
+    ensures { λ r. ⌜ r ≡ eachInOne 0 (sheetAt (now (s .entry)) .patterns) (tableAt (now (t .entry))) ⌝ }
+{
+    let mut i = 0;
+    while i < subscriptions.count {
+        let p = pattern_at(s, subscriptions.places[i]);
+        if !stands(t, entries, i, p) {
+            return false;
+        }
+        i += 1;
+    }
+    true
+}
+
+// Is the table fair?
+fn is_fair(s: &[u8], subscriptions: Subscriptions, t: &[u8], entries: Entries) -> bool
+    requires { ⌜ SubscriptionsStand (now s) subscriptions × EntriesStand (now t) entries ⌝ }
+    ensures { λ r. ⌜ r ≡ fairAt (now (s .entry)) (now (t .entry)) ⌝ }
+{
+    if !all_fit(t, entries, subscriptions.count) {
+        return false;
+    }
+    all_stand(s, subscriptions, t, entries)
+}
+
+// Where a table ends that passes the table check, the sheet judged first, or the first fault; 12 last.
+pub fn fair_table(s: &[u8], t: &[u8]) -> Cur
+    ensures { λ r. ⌜ r ≡ fairPlace (now (s .entry)) (now (t .entry)) ⌝ }
+{
+    match both(s, t) {
+        Cur::At(x) => {
+            if is_fair(s, subscriptions_in(s), t, entries_in(t)) {
+                return Cur::At(x);
+            }
+            Cur::No(12)
+        }
+        Cur::No(m) => Cur::No(m),
+    }
+}
+
+// The number of a table beside a sheet: 0 where it passes the table check.
+pub fn table_number(s: &[u8], t: &[u8]) -> u8
+    ensures { λ r. ⌜ r ≡ tableNumber (now (s .entry)) (now (t .entry)) ⌝ }
+{
+    match fair_table(s, t) {
+        Cur::At(x) => 0,
+        Cur::No(m) => m,
+    }
+}

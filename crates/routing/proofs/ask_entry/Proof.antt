@@ -1,0 +1,27 @@
+-- `routing::ask_entry` meets its contract: the members follow where the entry matches.
+use native.Mathlib.Omega.{arith}
+use Rattle.shapes.specs.Shapes.{entryOf}
+use Rattle.routing.specs.Tabling.{entry-matches, entry-fails}
+use Rattle.routing.proofs.ask_entry.Statement.{statement}
+use Rattle.routing.proofs.ask_entry.Tie as tie
+
+try-pattern-requires : tie.Need-try-pattern-requires
+try-pattern-requires c κs =
+    let pre = c .before .before .pre in
+    (pre .2, pre .1 .few, pre .1 .inside, pre .1 .rising, omega arith)
+
+ask-members-requires : tie.Need-ask-members-requires
+ask-members-requires c κs =
+    let pre = c .before .before .before .before .pre in
+    (pre .0, pre .1, omega (arith, c .before .try-pattern .ensures .1))
+
+returns : tie.Need-returns
+unfolding entryOf
+returns c = entry-matches _ _ (entryOf _) _ _ _ (c .before .before .try-pattern .ensures .0) (c .before .before .try-pattern .ensures .1) _ (c .before .if1 .taken) (c .ask-members .ensures)
+
+returns-2 : tie.Need-returns-2
+unfolding entryOf
+returns-2 c = entry-fails _ _ (entryOf _) _ _ _ (c .before .try-pattern .ensures .0) (c .before .try-pattern .ensures .1) (c .if1 .left)
+
+pub ask-entry-spec : {M : Type 1} → statement M
+ask-entry-spec = tie.close (tie.spec try-pattern-requires ask-members-requires returns returns-2)

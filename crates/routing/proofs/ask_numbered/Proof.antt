@@ -1,0 +1,40 @@
+-- `routing::ask_numbered` meets its contract: the pattern of that number, where there is one.
+use mathlib.Core.Path.{_∙_, ap}
+use native.Mathlib.Omega.{arith}
+use Rattle.meaning.specs.Satisfying.{satisfies}
+use Rattle.patterns.specs.Subscribed.{subscriptions-stand}
+use Rattle.routing.specs.Plain.{answer-there, answer-not-there}
+use borrow.Author.Needs.{needs}
+use Rattle.routing.proofs.ask_numbered.Statement.{statement}
+use Rattle.routing.proofs.ask_numbered.Tie as tie
+
+subscriptions-in-requires : tie.Need-subscriptions-in-requires
+subscriptions-in-requires c κs = search needs
+
+mul-x : tie.Need-mul-x
+mul-x c = omega (arith, subscriptions-stand _ _ (c .before .before .before .before .pre .0) (c .before .subscriptions-in .ensures) .few)
+
+element-copy-out-x : tie.Need-element-copy-out-x
+element-copy-out-x c = omega (arith, subscriptions-stand _ _ (c .before .before .before .before .pre .0) (c .before .subscriptions-in .ensures) .few)
+
+ask-requires : tie.Need-ask-requires
+ask-requires c κs =
+    let start = c .before .before .before .before .before in
+    (subscriptions-stand _ _ (start .pre .0) (c .before .before .subscriptions-in .ensures) .taken (start .args .i) (omega arith) .1, start .pre .1)
+
+returns : tie.Need-returns
+returns c =
+    let start = c .before .before .before .before .before .before in
+    let given = c .before .before .before .subscriptions-in .ensures in
+    answer-there _ _ (start .args .i) (c .ask .result) (omega (arith, subscriptions-stand _ _ (start .pre .0) given .counted))
+    (c .ask .ensures ∙ ap (satisfies _) (subscriptions-stand _ _ (start .pre .0) given .taken (start .args .i) (omega arith) .0))
+
+returns-2 : tie.Need-returns-2
+returns-2 c =
+    let start = c .before .before .before .before in
+    answer-not-there _ _ (start .args .i) (omega (arith, subscriptions-stand _ _ (start .pre .0) (c .before .subscriptions-in .ensures) .counted))
+
+pub ask-numbered-spec : {M : Type 1} → statement M
+ask-numbered-spec =
+    tie.close
+    (tie.spec subscriptions-in-requires mul-x element-copy-out-x ask-requires returns returns-2)

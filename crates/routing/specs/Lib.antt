@@ -1,0 +1,6 @@
+pub mod Marks
+pub mod Judged
+pub mod Plain
+pub mod Tabling
+pub mod TableSet
+pub mod Answers

@@ -1,0 +1,83 @@
+-- A set of subscriptions is made by marking one after the other: its members, its bound, and the delivery set of answers.
+use Prim.Native.Nat.{ℕ, zero, suc, _+_, _*_, _/_, _%_, _^_, _<_}
+use mathlib.Core.Path.{_≡_, refl, sym, ap, _∙_}
+use mathlib.Core.Bool.{Bool, true, false, _&&_, _||_, false≢true, true≢false}
+use mathlib.Core.List.{List, [], _∷_, _++_}
+use native.Mathlib.Omega.{arith}
+use native.Mathlib.Nat.{pow-suc}
+use lib.Bits.{bitOr, or-lt, or-shifted-r}
+use lib.Dec.{eqb}
+use lib.ListN.{length}
+use lib.Pow.{pow-lt, shl-exact}
+use Rattle.base.specs.Choice.{pick, pick-true, pick-false}
+use Rattle.meaning.specs.Fair.{isMember}
+use Rattle.meaning.specs.Routing.{deliverySet}
+use Rattle.laws.specs.Members.{member-first, member-next, member-or, member-alone, delivery-lt}
+
+-- the set with subscription i in it where the answer is yes
+unfoldable pub marked : ℕ → ℕ → Bool → ℕ
+marked set i said = pick said (bitOr set (2 ^ i)) set
+
+-- as the machine marks it
+pub mark-set : (set i : ℕ) (said : Bool) → i < 64 → said ≡ true → bitOr set ((1 * 2 ^ i) % 2 ^ 64) ≡ marked set i said
+unfolding marked
+mark-set set i said h e =
+    let one : (1 * 2 ^ i) % 2 ^ 64 ≡ 2 ^ i = shl-exact 1 i 64 (omega arith) (omega arith) ∙ omega arith in
+    pick-true _ _ _ said e (ap (bitOr set) one)
+
+-- and as it leaves it
+pub mark-left : (set i : ℕ) (said : Bool) → said ≡ false → set ≡ marked set i said
+unfolding marked
+mark-left set i said e = pick-false _ _ _ said e refl
+
+-- its members: those before, and i where the answer is yes
+pub member-marked : (set i : ℕ) (said : Bool) (j : ℕ) → isMember (marked set i said) j ≡ (isMember set j || (said && eqb i j))
+unfolding marked pick
+member-marked set i true j = member-or set (2 ^ i) j ∙ ap (λ (b : Bool). isMember set j || b) (member-alone i j)
+member-marked set i false j = go (isMember set j)
+  where
+    go : (b : Bool) → b ≡ (b || false)
+    go true = refl
+    go false = refl
+
+-- it stays within n subscriptions
+pub marked-lt : (n set i : ℕ) (said : Bool) → set < 2 ^ n → i < n → marked set i said < 2 ^ n
+unfolding marked pick
+marked-lt n set i true h l = or-lt n set (2 ^ i) h (pow-lt l)
+marked-lt n set i false h l = h
+
+-- sets of the same members, of n subscriptions, are the same number
+pub same-members : (n a b : ℕ) → a < 2 ^ n → b < 2 ^ n → ((i : ℕ) → i < n → isMember a i ≡ isMember b i) → a ≡ b
+same-members zero a b h k same = omega arith
+same-members (suc n) a b h k same =
+    let halves : a / 2 ≡ b / 2 =
+    same-members n (a / 2) (b / 2) (omega (arith, pow-suc 2 n)) (omega (arith, pow-suc 2 n))
+    (λ i l. sym (member-next a i) ∙ same (suc i) (omega arith) ∙ member-next b i) in
+    let odd : a % 2 ≡ b % 2 = bit (a % 2) (b % 2) (omega arith) (omega arith) (sym (member-first a) ∙ same 0 (omega arith) ∙ member-first b) in
+    omega arith
+  where
+    bit : (u v : ℕ) → u < 2 → v < 2 → eqb u 1 ≡ eqb v 1 → u ≡ v
+    bit zero zero p q e = refl
+    bit zero (suc zero) p q e = absurd (false≢true e)
+    bit (suc zero) zero p q e = absurd (true≢false e)
+    bit (suc zero) (suc zero) p q e = refl
+    bit zero (suc (suc v)) p q e = absurd (omega arith)
+    bit (suc zero) (suc (suc v)) p q e = absurd (omega arith)
+    bit (suc (suc u)) v p q e = absurd (omega arith)
+
+-- one answer more in a delivery set
+added : (xs : List Bool) (said : Bool) → deliverySet (xs ++ (said ∷ [])) ≡ deliverySet xs + pick said (2 ^ length xs) 0
+unfolding deliverySet pick
+added [] true = refl
+added [] false = refl
+added (x ∷ xs) true = omega (arith, added xs true, pow-suc 2 (length xs))
+added (x ∷ xs) false = omega (arith, added xs false)
+
+-- marks its subscription
+pub delivery-last : (xs : List Bool) (said : Bool) → deliverySet (xs ++ (said ∷ [])) ≡ marked (deliverySet xs) (length xs) said
+unfolding marked pick
+delivery-last xs true = added xs true ∙ omega (arith, or-shifted-r 1 (length xs) (deliverySet xs) (delivery-lt xs), ap (bitOr (deliverySet xs)) one)
+  where
+    one : 1 * 2 ^ length xs ≡ 2 ^ length xs
+    one = omega arith
+delivery-last xs false = added xs false ∙ omega arith

@@ -1,0 +1,145 @@
+-- The route by a table, entry by entry and member by member: the set so far, and how many patterns were tried.
+use Prim.Native.Nat.{ℕ, zero, suc, _+_, _-_, _≤_, _<_}
+use mathlib.Core.Path.{_≡_, refl, sym, _∙_}
+use mathlib.Core.Bool.{Bool, true, false}
+use mathlib.Core.List.{List, [], _∷_}
+use native.Mathlib.Omega.{arith}
+use native.Mathlib.Numerals.{add-one}
+use lib.ListN.{length, getD, drop}
+use Rattle.base.specs.Choice.{pick, pick-true, pick-false}
+use Rattle.base.specs.Lists.{keep, total, numbersFrom}
+use Rattle.base.specs.ListLaws.{length-keep, length-numbersFrom}
+use Rattle.base.specs.Loops.{foldN}
+use Rattle.base.specs.Along.{foldAlong, along-goes-on, foldN-goes-on}
+use Rattle.meaning.specs.Forest.{Forest, none}
+use Rattle.meaning.specs.Sections.{Node, Entry}
+use Rattle.meaning.specs.Satisfying.{satisfies}
+use Rattle.meaning.specs.Fair.{isMember}
+use Rattle.meaning.specs.Routing.{membersOf, triedFor, tried}
+use Rattle.routing.specs.declared.Route.{Route}
+use Rattle.routing.specs.Marks.{marked}
+
+-- nothing is tried yet
+unfoldable pub start : Route
+start = record { set = 0; tried = 0 }
+
+-- one more was tried
+unfoldable pub oneMore : Route → Route
+oneMore r = record { set = r .set; tried = r .tried + 1 }
+
+-- subscription i is tried if it is a member, and marked if it matches
+unfoldable pub memberTried : ℕ → ℕ → Bool → Route → Route
+memberTried members i said r = pick (isMember members i) (record { set = marked (r .set) i said; tried = r .tried + 1 }) r
+
+-- as a member is asked
+pub member-asked : (members i : ℕ) (said : Bool) (r : Route) (b yes′ : Bool) (set n : ℕ) → b ≡ isMember members i → b ≡ true → yes′ ≡ said → set ≡ marked (r .set) i yes′ → n ≡ r .tried + 1
+    → _≡_ {A = Route} (record { set = set; tried = n }) (memberTried members i said r)
+unfolding memberTried
+member-asked members i said r b yes′ set n e h f g k = pick-true _ _ _ (isMember members i) (sym e ∙ h) (rw (g, f, k))
+
+-- as another is left
+pub member-left : (members i : ℕ) (said : Bool) (r : Route) (b : Bool) → b ≡ isMember members i → b ≡ false → r ≡ memberTried members i said r
+unfolding memberTried
+member-left members i said r b e h = pick-false _ _ _ (isMember members i) (sym e ∙ h) refl
+
+-- at most one more
+pub member-tried-few : (members i : ℕ) (said : Bool) (r q : Route) → q ≡ memberTried members i said r → q .tried ≤ r .tried + 1
+unfolding memberTried pick
+member-tried-few members i said r q h = rw h (go (isMember members i))
+  where
+    go : (b : Bool) → (pick b (record { set = marked (r .set) i said; tried = r .tried + 1 }) r) .tried ≤ r .tried + 1
+    go true = omega arith
+    go false = omega arith
+
+module _ (ns : List Node) (ps : List Forest) where
+  -- subscription i, by its own pattern
+  unfoldable pub askMember : ℕ → ℕ → Route → Route
+  askMember members i r = memberTried members i (satisfies ns (getD ps i none)) r
+
+  -- all members
+  unfoldable pub askMembers : ℕ → Route → Route
+  askMembers members r = foldN (askMember members) (length ps) 0 r
+
+  -- an entry, and all its members if it matches
+  unfoldable pub askEntry : Entry → Route → Route
+  askEntry e r = pick (satisfies ns (e .pattern)) (askMembers (e .members) (oneMore r)) (oneMore r)
+
+  -- all entries
+  unfoldable pub routeBy : List Entry → Route
+  routeBy es = foldAlong askEntry es start
+
+  -- ---- how many are tried
+
+  -- by the k members from i on
+  members-tried : (members k i : ℕ) (r : Route) → (foldN (askMember members) k i r) .tried ≡ r .tried + length (keep (isMember members) (numbersFrom i k))
+  unfolding foldN askMember memberTried keep numbersFrom pick
+  members-tried members zero i r = omega arith
+  members-tried members (suc k) i r = rw (← (add-one i)) (go (isMember members i) (members-tried members k (i + 1)))
+    where
+      go : (b : Bool) → ((q : Route) → (foldN (askMember members) k (i + 1) q) .tried ≡ q .tried + length (keep (isMember members) (numbersFrom (i + 1) k)))
+          → (foldN (askMember members) k (i + 1) (pick b (record { set = marked (r .set) i (satisfies ns (getD ps i none)); tried = r .tried + 1 }) r)) .tried
+          ≡ r .tried + length (pick b (i ∷ keep (isMember members) (numbersFrom (i + 1) k)) (keep (isMember members) (numbersFrom (i + 1) k)))
+      go true h = h _ ∙ omega arith
+      go false h = h r
+
+  -- by all members
+  pub all-members-tried : (members : ℕ) (r : Route) → (askMembers members r) .tried ≡ r .tried + length (membersOf (length ps) members)
+  unfolding askMembers membersOf
+  all-members-tried members r = members-tried members (length ps) 0 r
+
+  -- by an entry
+  entry-tried : (e : Entry) (r : Route) → (askEntry e r) .tried ≡ r .tried + 1 + triedFor ns (length ps) e
+  unfolding askEntry triedFor oneMore pick
+  entry-tried e r = go (satisfies ns (e .pattern))
+    where
+      go : (b : Bool) → (pick b (askMembers (e .members) (oneMore r)) (oneMore r)) .tried ≡ r .tried + 1 + pick b (length (membersOf (length ps) (e .members))) 0
+      go true = all-members-tried (e .members) (oneMore r)
+      go false = omega arith
+
+  -- at most one and as many as there are subscriptions
+  pub entry-tried-few : (e : Entry) (r q : Route) → q ≡ askEntry e r → q .tried ≤ r .tried + 1 + length ps
+  unfolding triedFor membersOf pick
+  entry-tried-few e r q h =
+      let most : triedFor ns (length ps) e ≤ length ps = go (satisfies ns (e .pattern)) in
+      rw h (omega (arith, entry-tried e r))
+    where
+      go : (b : Bool) → pick b (length (keep (isMember (e .members)) (numbersFrom 0 (length ps)))) 0 ≤ length ps
+      go true = omega (arith, length-keep (isMember (e .members)) (numbersFrom 0 (length ps)), length-numbersFrom 0 (length ps))
+      go false = omega arith
+
+  -- by entries
+  along-tried : (es : List Entry) (r : Route) → (foldAlong askEntry es r) .tried ≡ r .tried + (length es + total (triedFor ns (length ps)) es)
+  unfolding foldAlong total
+  along-tried [] r = omega arith
+  along-tried (e ∷ es) r = omega (arith, along-tried es (askEntry e r), entry-tried e r)
+
+  -- all entries, plus all members of each entry that matches
+  pub route-tried : (es : List Entry) → (routeBy es) .tried ≡ tried ns es ps
+  unfolding routeBy tried start
+  route-tried es = along-tried es start ∙ omega arith
+
+  -- ---- the loops along members and along entries
+
+  -- one member more
+  pub members-go-on : (members i : ℕ) (r q whole : Route) (said : Bool) → i < length ps → said ≡ satisfies ns (getD ps i none) → q ≡ memberTried members i said r
+      → foldN (askMember members) (length ps - i) i r ≡ whole → foldN (askMember members) (length ps - (i + 1)) (i + 1) q ≡ whole
+  unfolding askMember
+  members-go-on members i r q whole said h e f k = rw (f, e) (foldN-goes-on (askMember members) (length ps) i r whole h k)
+
+  -- one entry more
+  pub entries-go-on : (es : List Entry) (j : ℕ) (r q whole : Route) (e d : Entry) → j < length es → e ≡ getD es j d → q ≡ askEntry e r
+      → foldAlong askEntry (drop j es) r ≡ whole → foldAlong askEntry (drop (j + 1) es) q ≡ whole
+  entries-go-on es j r q whole e d h f g k = rw (g, f) (along-goes-on askEntry es d j r whole k h)
+
+  -- ---- as an entry is asked
+
+  module _ (e : Entry) (r : Route) (b : Bool) (n : ℕ) (said : b ≡ satisfies ns (e .pattern)) (one : n ≡ r .tried + 1) where
+    -- its members follow
+    pub entry-matches : (q : Route) → b ≡ true → q ≡ askMembers (e .members) (record { set = r .set; tried = n }) → q ≡ askEntry e r
+    unfolding askEntry oneMore
+    entry-matches q h k = pick-true _ _ _ (satisfies ns (e .pattern)) (sym said ∙ h) (k ∙ rw one)
+
+    -- nothing follows
+    pub entry-fails : b ≡ false → _≡_ {A = Route} (record { set = r .set; tried = n }) (askEntry e r)
+    unfolding askEntry oneMore
+    entry-fails h = pick-false _ _ _ (satisfies ns (e .pattern)) (sym said ∙ h) (rw one)
