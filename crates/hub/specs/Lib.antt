@@ -1,0 +1,4 @@
+pub mod Says
+pub mod Outcome
+pub mod Growing
+pub mod Sharp

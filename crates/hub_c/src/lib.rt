@@ -1,0 +1,62 @@
+// The calls of the print server in C: the sheet check, the plain route and the route by a table (include/hub.h).
+use meaning::Routed;
+use meaning::Tabled;
+ghost use mathlib.Core.Path.{_≡_};
+ghost use Rattle.meaning.specs.Calls.{sheetNumber, plainAnswer, tableAnswer};
+ghost use Rattle.hub_c.specs.Given.{GivesPlain, GivesTable};
+
+// The plain route: the number, and the delivery set.
+#[repr(C)]
+pub struct PlainRoute {
+    pub number: u8,
+    pub delivered: u64,
+}
+
+// The route by a table: the number, the delivery set, and how many patterns were tried.
+#[repr(C)]
+pub struct TableRoute {
+    pub number: u8,
+    pub delivered: u64,
+    pub tried: u64,
+}
+
+#[no_mangle]
+pub extern "C" fn hub_sheet_check(s: &[u8]) -> u8
+    ensures { λ r. ⌜ r ≡ sheetNumber (now (s .entry)) ⌝ }
+{
+    hub::sheet_check(s)
+}
+
+#[no_mangle]
+pub extern "C" fn hub_plain_route(s: &[u8], d: &[u8]) -> PlainRoute
+    ensures { λ r. ⌜ GivesPlain (plainAnswer (now (s .entry)) (now (d .entry))) r ⌝ }
+{
+    match hub::plain_route(s, d) {
+        Routed::Refused(n) => PlainRoute {
+            number: n,
+            delivered: 0,
+        },
+        Routed::Delivered(set) => PlainRoute {
+            number: 0,
+            delivered: set,
+        },
+    }
+}
+
+#[no_mangle]
+pub extern "C" fn hub_table_route(s: &[u8], t: &[u8], d: &[u8]) -> TableRoute
+    ensures { λ r. ⌜ GivesTable (tableAnswer (now (s .entry)) (now (t .entry)) (now (d .entry))) r ⌝ }
+{
+    match hub::table_route(s, t, d) {
+        Tabled::Refused(n) => TableRoute {
+            number: n,
+            delivered: 0,
+            tried: 0,
+        },
+        Tabled::Delivered { set, tried } => TableRoute {
+            number: 0,
+            delivered: set,
+            tried: tried as u64,
+        },
+    }
+}
