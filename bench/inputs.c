@@ -1,0 +1,168 @@
+// Random sheets and documents.
+#include "inputs.h"
+
+static uint64_t state;
+
+void start_random(uint64_t seed)
+{
+    state = seed;
+}
+
+// splitmix64
+static uint64_t random_bits(void)
+{
+    uint64_t x = state += 0x9e3779b97f4a7c15;
+    x = (x ^ x >> 30) * 0xbf58476d1ce4e5b9;
+    x = (x ^ x >> 27) * 0x94d049bb133111eb;
+    return x ^ x >> 31;
+}
+
+static unsigned below(unsigned n)
+{
+    return (unsigned)((random_bits() >> 32) * n >> 32);
+}
+
+static bool chance(unsigned in_a_hundred)
+{
+    return below(100) < in_a_hundred;
+}
+
+// Labels of a letter and two digits.
+static void put_labels(unsigned count, char letter)
+{
+    put(count);
+    for (unsigned i = 0; i < count; i++) {
+        put(3);
+        put((uint8_t)letter);
+        put('0' + i / 16);
+        put('0' + i % 16);
+    }
+}
+
+// One of the steps that the step after `last` may hang on, the root among them.
+static unsigned random_parent(const uint8_t *parents, unsigned last)
+{
+    unsigned depth = 0;
+    for (unsigned k = last; k != 0; k = parents[k])
+        depth++;
+    unsigned parent = last;
+    for (unsigned up = below(depth + 1); up > 0; up--)
+        parent = parents[parent];
+    return parent;
+}
+
+// The steps of a pattern, numbered from 1.
+typedef struct {
+    unsigned count;
+    uint8_t parent[17], axis[17], label[17];
+} Steps;
+
+static Steps random_steps(unsigned labels, Shape shape)
+{
+    Steps steps = {.count = shape.steps};
+    bool near_root = false;
+    for (unsigned k = 1; k <= shape.steps; k++) {
+        unsigned parent = shape.chain ? k - 1 : random_parent(steps.parent, k - 1);
+        bool far = chance(shape.far) || (parent == 0 && near_root);
+        near_root |= parent == 0 && !far;
+        steps.parent[k] = (uint8_t)parent;
+        steps.axis[k] = far;
+        steps.label[k] = (uint8_t)(chance(shape.any) ? 0 : 1 + below(labels));
+    }
+    return steps;
+}
+
+static Steps loosened(Steps steps)
+{
+    for (unsigned k = 1; k <= steps.count; k++) {
+        if (chance(50))
+            steps.axis[k] = 1;
+        if (chance(50))
+            steps.label[k] = 0;
+    }
+    return steps;
+}
+
+static void put_steps(Steps steps)
+{
+    put(steps.count);
+    for (unsigned k = 1; k <= steps.count; k++) {
+        put(steps.parent[k]);
+        put(steps.axis[k]);
+        put(steps.label[k]);
+    }
+}
+
+Part random_sheet(unsigned labels, unsigned patterns, Shape shape)
+{
+    begin_part();
+    put_labels(labels, 'a');
+    put(patterns);
+    for (unsigned i = 0; i < patterns; i++)
+        put_steps(random_steps(labels, shape));
+    return end_part();
+}
+
+Part covered_sheet(unsigned labels, Shape shape)
+{
+    Steps steps = random_steps(labels, shape);
+    begin_part();
+    put_labels(labels, 'a');
+    put(2);
+    put_steps(loosened(steps));
+    put_steps(steps);
+    return end_part();
+}
+
+static void put_node(unsigned u, unsigned label)
+{
+    put_two(u == 1 ? 0 : 1 + below(u - 1));
+    put(label);
+}
+
+Part random_document(unsigned labels, unsigned nodes)
+{
+    begin_part();
+    put_labels(2, 'x');
+    put_two(nodes);
+    for (unsigned u = 1; u <= nodes; u++)
+        put_node(u, 1 + below(labels + 2));
+    return end_part();
+}
+
+static void put_family_pattern(unsigned family, bool star)
+{
+    unsigned first = 1 + FAMILIES + (star ? CHAIN_PARTS : 0), parts = star ? STAR_PARTS : CHAIN_PARTS;
+    put(4);
+    put(0);
+    put(1);
+    put(family);
+    for (unsigned k = 1; k <= 3; k++) {
+        put(star ? 1 : k);
+        put(0);
+        put(first + below(parts));
+    }
+}
+
+Part family_sheet(unsigned members_of_each)
+{
+    begin_part();
+    put_labels(FAMILY_LABELS, 'a');
+    put(FAMILIES * members_of_each);
+    for (unsigned family = 1; family <= FAMILIES; family++)
+        for (unsigned i = 0; i < members_of_each; i++)
+            put_family_pattern(family, i % 2 == 1);
+    return end_part();
+}
+
+// All nodes are parts or labels of the document's own, but for one of the first four in one document of four.
+Part family_document(unsigned nodes)
+{
+    unsigned family = 1 + below(FAMILIES), at = chance(25) ? 1 + below(4) : 0;
+    begin_part();
+    put_labels(2, 'x');
+    put_two(nodes);
+    for (unsigned u = 1; u <= nodes; u++)
+        put_node(u, u == at ? family : 1 + FAMILIES + below(FAMILY_LABELS - FAMILIES + 2));
+    return end_part();
+}

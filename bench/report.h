@@ -1,0 +1,10 @@
+// The report: times and ratios, in tables.
+#ifndef REPORT_H
+#define REPORT_H
+
+#include "timing.h"
+
+void report_section(const Section *section);
+void report_rares(void);
+
+#endif

@@ -1,0 +1,77 @@
+// Routing, plain and by a table.
+#include "by_hand.h"
+
+// Do the entries share out the subscriptions, with none left empty, and none given what it does not cover?
+static bool is_fair(const Table *table, const Sheet *sheet)
+{
+    uint64_t all = sheet->count == 64 ? ~(uint64_t)0 : ((uint64_t)1 << sheet->count) - 1;
+    uint64_t met = 0;
+    for (unsigned i = 0; i < table->count; i++) {
+        uint64_t members = table->entries[i].members;
+        if (members == 0 || (members & ~all) != 0 || (members & met) != 0)
+            return false;
+        met |= members;
+    }
+    if (met != all)
+        return false;
+    for (unsigned i = 0; i < table->count; i++)
+        for (uint64_t rest = table->entries[i].members; rest != 0; rest &= rest - 1)
+            if (!covers(&table->entries[i].pattern, &sheet->patterns[__builtin_ctzll(rest)]))
+                return false;
+    return true;
+}
+
+Routed hand_plain_route(const uint8_t *sheet_bytes, size_t sheet_length, const uint8_t *document_bytes,
+                        size_t document_length)
+{
+    Sheet sheet;
+    Document document;
+    uint8_t number = read_sheet(&sheet, sheet_bytes, sheet_length);
+    if (number == DONE)
+        number = read_document(&document, &sheet, document_bytes, document_length);
+    if (number != DONE)
+        return (Routed){number, 0};
+    uint64_t delivered = 0;
+    for (unsigned i = 0; i < sheet.count; i++)
+        delivered |= (uint64_t)satisfies(&document, &sheet.patterns[i]) << i;
+    return (Routed){DONE, delivered};
+}
+
+// One try.
+static bool try_pattern(const Document *document, const Pattern *pattern, uint64_t *tried)
+{
+    ++*tried;
+    return satisfies(document, pattern);
+}
+
+static Tabled route(const Sheet *sheet, const Table *table, const Document *document)
+{
+    Tabled routed = {DONE, 0, 0};
+    for (unsigned e = 0; e < table->count; e++) {
+        if (!try_pattern(document, &table->entries[e].pattern, &routed.tried))
+            continue;
+        for (uint64_t rest = table->entries[e].members; rest != 0; rest &= rest - 1) {
+            unsigned i = (unsigned)__builtin_ctzll(rest);
+            routed.delivered |= (uint64_t)try_pattern(document, &sheet->patterns[i], &routed.tried) << i;
+        }
+    }
+    return routed;
+}
+
+Tabled hand_table_route(const uint8_t *sheet_bytes, size_t sheet_length, const uint8_t *table_bytes,
+                        size_t table_length, const uint8_t *document_bytes, size_t document_length)
+{
+    Sheet sheet;
+    Table table;
+    Document document;
+    uint8_t number = read_sheet(&sheet, sheet_bytes, sheet_length);
+    if (number == DONE)
+        number = read_table(&table, &sheet, table_bytes, table_length);
+    if (number == DONE && !is_fair(&table, &sheet))
+        number = NOT_FAIR;
+    if (number == DONE)
+        number = read_document(&document, &sheet, document_bytes, document_length);
+    if (number != DONE)
+        return (Tabled){number, 0, 0};
+    return route(&sheet, &table, &document);
+}

@@ -1,0 +1,84 @@
+// The two sides, and how each is asked.
+#include "sides.h"
+#include "by_hand.h"
+
+const Side sides[] = {
+    {"by hand", hand_sheet_check, hand_plain_route, hand_table_route, hand_covers, hand_merge, hand_build},
+#ifndef BY_HAND_ONLY
+    {"proved", hub_sheet_check, hub_plain_route, hub_table_route, bench_covers, bench_merge, bench_build},
+#endif
+};
+const unsigned side_count = sizeof sides / sizeof sides[0];
+
+static void ask_route(Answer *answer, const Side *side, const Question *q)
+{
+    if (q->call == PLAIN_ROUTE) {
+        Routed r = side->plain_route(q->sheet.at, q->sheet.length, q->document.at, q->document.length);
+        answer->number = r.number;
+        answer->value = r.delivered;
+    } else {
+        Tabled r = side->table_route(q->sheet.at, q->sheet.length, q->table.at, q->table.length, q->document.at,
+                                     q->document.length);
+        answer->number = r.number;
+        answer->value = r.delivered;
+        answer->count = r.tried;
+    }
+}
+
+static void ask_merge(Answer *answer, const Side *side, const Question *q)
+{
+    Merged r = side->merge(q->sheet.at, q->sheet.length, q->i, q->j, answer->out, OUT_ROOM);
+    answer->number = r.number;
+    answer->value = r.clipped;
+    answer->length = r.length;
+}
+
+static void ask_build(Answer *answer, const Side *side, const Question *q)
+{
+    Built r = side->build(q->sheet.at, q->sheet.length, q->limit, answer->out, OUT_ROOM);
+    answer->number = r.number;
+    answer->count = r.rounds;
+    answer->length = r.length;
+}
+
+static void ask_covers(Answer *answer, const Side *side, const Question *q)
+{
+    Asked r = side->covers(q->sheet.at, q->sheet.length, q->i, q->j);
+    answer->number = r.number;
+    answer->value = r.said;
+}
+
+void ask(Answer *answer, const Side *side, const Question *q)
+{
+    switch (q->call) {
+    case SHEET_CHECK:
+        answer->number = side->sheet_check(q->sheet.at, q->sheet.length);
+        break;
+    case PLAIN_ROUTE:
+    case TABLE_ROUTE:
+        ask_route(answer, side, q);
+        break;
+    case COVERS:
+        ask_covers(answer, side, q);
+        break;
+    case MERGE:
+        ask_merge(answer, side, q);
+        break;
+    case BUILD:
+        ask_build(answer, side, q);
+        break;
+    }
+}
+
+void ask_afresh(Answer *answer, const Side *side, const Question *question)
+{
+    memset(answer, 0, sizeof *answer);
+    memset(answer->out, AS_FOUND, OUT_ROOM);
+    ask(answer, side, question);
+}
+
+bool same(const Answer *a, const Answer *b)
+{
+    return a->number == b->number && a->value == b->value && a->count == b->count && a->length == b->length
+           && memcmp(a->out, b->out, OUT_ROOM) == 0;
+}

@@ -1,0 +1,47 @@
+// The two sides, the questions that both are asked, and their answers in one shape.
+#ifndef SIDES_H
+#define SIDES_H
+
+#include "parts.h"
+#include "proved.h"
+
+typedef struct {
+    const char *name;
+    uint8_t (*sheet_check)(const uint8_t *, size_t);
+    Routed (*plain_route)(const uint8_t *, size_t, const uint8_t *, size_t);
+    Tabled (*table_route)(const uint8_t *, size_t, const uint8_t *, size_t, const uint8_t *, size_t);
+    Asked (*covers)(const uint8_t *, size_t, uint64_t, uint64_t);
+    Merged (*merge)(const uint8_t *, size_t, uint64_t, uint64_t, uint8_t *, size_t);
+    Built (*build)(const uint8_t *, size_t, uint16_t, uint8_t *, size_t);
+} Side;
+
+// By hand, then proved; by hand alone where the program was built without the archive.
+extern const Side sides[];
+extern const unsigned side_count;
+
+typedef enum { SHEET_CHECK, PLAIN_ROUTE, TABLE_ROUTE, COVERS, MERGE, BUILD } Call;
+
+// What a call does not take is left 0.
+typedef struct {
+    Call call;
+    Part sheet, table, document;
+    uint64_t i, j;
+    uint16_t limit;
+} Question;
+
+enum { OUT_ROOM = 4096, AS_FOUND = 0xa5 };
+
+// The value is the delivery set, what was said, or the clipped mark; the count is that of tries or of rounds.
+typedef struct {
+    uint8_t number;
+    uint64_t value, count, length;
+    uint8_t out[OUT_ROOM];
+} Answer;
+
+void ask(Answer *answer, const Side *side, const Question *question);
+
+// The same, with the lent bytes filled first, so that two answers are the same exactly when all their bytes are.
+void ask_afresh(Answer *answer, const Side *side, const Question *question);
+bool same(const Answer *a, const Answer *b);
+
+#endif
