@@ -1,0 +1,318 @@
+//! The answer to each question: the line of docs/ASK.md, and what is counted of it.
+
+use crate::building::build;
+use crate::covering::covers;
+use crate::labels::label;
+use crate::maps::{covers_checked, satisfies_checked};
+use crate::merging::{merge, Rule};
+use crate::numbers::{Judged, Refusal, ASKED, ROOM, UNFAIR};
+use crate::question::{hex, next_question, Next, Question};
+use crate::reading;
+use crate::routing::{fair, plain_route, table_route};
+use crate::trees::{written, written_table, Document, Entry, Pattern, Sheet};
+use std::io::{self, Write};
+
+/// The kind of a merge where no candidate was left out at the roots, but one further down.
+pub const CLIPPED_ONLY_BELOW: &str = "clipped only below";
+
+/// The kind of a build where a cut had several entries to choose from.
+pub const CUTS_AMONG_SEVERAL: &str = "cuts among several";
+
+/// What each lent byte holds before the call.
+const AS_FOUND: u8 = 0xa5;
+
+pub struct Answer {
+    pub line: String,
+    pub outcome: Outcome,
+}
+
+/// What came of a question: a refusal, or done, with the kind of answer.
+#[derive(Clone, Copy, PartialEq, Eq, PartialOrd, Ord, Debug)]
+pub enum Outcome {
+    Done(&'static str),
+    Refused(Refusal),
+}
+
+/// The values that follow a 0, each after a space, and the kind of answer.
+struct Values(String, &'static str);
+
+pub fn answer(question: &Question) -> Answer {
+    let result = match question.letter {
+        b'S' => sheet_check(question),
+        b'D' => document_check(question),
+        b'T' => table_check(question),
+        b'M' => does_match(question),
+        b'C' => does_cover(question),
+        b'G' => merge_of(question),
+        b'B' => table_for(question),
+        b'P' => plain(question),
+        b'R' => by_table(question),
+        b'L' => label_bytes(question),
+        letter => panic!("no such letter: {letter}"),
+    };
+    match result {
+        Ok(Values(values, kind)) => Answer {
+            line: format!("0{values}"),
+            outcome: Outcome::Done(kind),
+        },
+        Err(refusal) => Answer {
+            line: format!("{}{}", refusal.number, zeros(question)),
+            outcome: Outcome::Refused(refusal),
+        },
+    }
+}
+
+/// What follows the number of a refused call.
+fn zeros(question: &Question) -> String {
+    match question.letter {
+        b'S' | b'D' | b'T' => String::new(),
+        b'M' | b'C' => " 0".to_string(),
+        b'G' | b'B' => format!(" 0 0 {}", lent_bytes(&[], question.room)),
+        b'P' => format!(" {:016x} 0 64", 0),
+        b'R' => format!(" {:016x} 0", 0),
+        _ => " -".to_string(),
+    }
+}
+
+/// All lent bytes after the call: those written, and those behind as found.
+fn lent_bytes(written: &[u8], room: u16) -> String {
+    let mut lent = vec![AS_FOUND; room as usize];
+    lent[..written.len()].copy_from_slice(written);
+    hex(&lent)
+}
+
+fn refusal(judged: Judged, number: u8) -> Refusal {
+    Refusal { judged, number }
+}
+
+fn read_sheet(question: &Question) -> Result<Sheet, Refusal> {
+    reading::sheet(&question.sheet).map_err(|number| refusal(Judged::Sheet, number))
+}
+
+fn read_document(question: &Question, sheet: &Sheet) -> Result<Document, Refusal> {
+    let read = reading::document(&question.document, sheet);
+    read.map_err(|number| refusal(Judged::Document, number))
+}
+
+/// The table's bytes are judged first, and then whether it is fair.
+fn read_table(question: &Question, sheet: &Sheet) -> Result<Vec<Entry>, Refusal> {
+    let read = reading::table(&question.table, sheet);
+    let entries = read.map_err(|number| refusal(Judged::Table, number))?;
+    if !fair(sheet, &entries) {
+        return Err(refusal(Judged::Table, UNFAIR));
+    }
+    Ok(entries)
+}
+
+fn subscription(sheet: &Sheet, number: u64) -> Result<&Pattern, Refusal> {
+    if number >= sheet.patterns.len() as u64 {
+        return Err(refusal(Judged::Number, ASKED));
+    }
+    Ok(&sheet.patterns[number as usize])
+}
+
+fn check_room(written: &[u8], room: u16) -> Result<(), Refusal> {
+    if written.len() > room as usize {
+        return Err(refusal(Judged::Room, ROOM));
+    }
+    Ok(())
+}
+
+fn yes_or_no(yes: bool) -> Values {
+    if yes {
+        Values(" 1".to_string(), "yes")
+    } else {
+        Values(" 0".to_string(), "no")
+    }
+}
+
+fn sheet_check(question: &Question) -> Result<Values, Refusal> {
+    read_sheet(question)?;
+    Ok(Values(String::new(), "sound"))
+}
+
+fn document_check(question: &Question) -> Result<Values, Refusal> {
+    let sheet = read_sheet(question)?;
+    read_document(question, &sheet)?;
+    Ok(Values(String::new(), "sound"))
+}
+
+fn table_check(question: &Question) -> Result<Values, Refusal> {
+    let sheet = read_sheet(question)?;
+    read_table(question, &sheet)?;
+    Ok(Values(String::new(), "sound"))
+}
+
+fn does_match(question: &Question) -> Result<Values, Refusal> {
+    let sheet = read_sheet(question)?;
+    let document = read_document(question, &sheet)?;
+    let pattern = subscription(&sheet, question.numbers[0])?;
+    Ok(yes_or_no(satisfies_checked(&document, pattern)))
+}
+
+fn does_cover(question: &Question) -> Result<Values, Refusal> {
+    let sheet = read_sheet(question)?;
+    let first = subscription(&sheet, question.numbers[0])?;
+    let second = subscription(&sheet, question.numbers[1])?;
+    Ok(yes_or_no(covers_checked(first, second)))
+}
+
+fn merge_of(question: &Question) -> Result<Values, Refusal> {
+    let sheet = read_sheet(question)?;
+    let first = subscription(&sheet, question.numbers[0])?;
+    let second = subscription(&sheet, question.numbers[1])?;
+    let merged = merge(first, second);
+    // What makes a table safe: a merge covers both patterns that it stands for.
+    assert!(covers(&merged.pattern, first) && covers(&merged.pattern, second));
+    let bytes = written(&merged.pattern);
+    check_room(&bytes, question.room)?;
+    let kind = match merged.rule {
+        Rule::FirstCovers => "i covers j",
+        Rule::SecondCovers => "j covers i",
+        Rule::Built if merged.clipped.at_roots => "clipped",
+        Rule::Built if merged.clipped.below => CLIPPED_ONLY_BELOW,
+        Rule::Built => "built",
+    };
+    let lent = lent_bytes(&bytes, question.room);
+    let clipped = merged.clipped.anywhere() as u8;
+    Ok(Values(format!(" {} {clipped} {lent}", bytes.len()), kind))
+}
+
+fn table_for(question: &Question) -> Result<Values, Refusal> {
+    let sheet = read_sheet(question)?;
+    let built = build(&sheet, question.limit);
+    // Demand 3: every table we build passes the table check.
+    assert!(fair(&sheet, &built.entries), "built, but not fair");
+    let bytes = written_table(&built.entries);
+    check_room(&bytes, question.room)?;
+    let kind = match (built.rounds, built.cuts) {
+        (0, _) => "no rounds",
+        (_, 0) => "rounds of merges",
+        _ if built.cuts_among_several > 0 => CUTS_AMONG_SEVERAL,
+        _ => "cuts of a single entry",
+    };
+    let lent = lent_bytes(&bytes, question.room);
+    let values = format!(" {} {} {lent}", bytes.len(), built.rounds);
+    Ok(Values(values, kind))
+}
+
+fn plain(question: &Question) -> Result<Values, Refusal> {
+    let sheet = read_sheet(question)?;
+    let document = read_document(question, &sheet)?;
+    let delivered = plain_route(&sheet, &document);
+    let sheds = (0..64).filter(|i| delivered >> i & 1 == 1).count();
+    let lowest = (0..64).find(|i| delivered >> i & 1 == 1).unwrap_or(64);
+    let kind = if sheds == 0 { "to none" } else { "to some" };
+    let values = format!(" {delivered:016x} {sheds} {lowest}");
+    Ok(Values(values, kind))
+}
+
+fn by_table(question: &Question) -> Result<Values, Refusal> {
+    let sheet = read_sheet(question)?;
+    let entries = read_table(question, &sheet)?;
+    let document = read_document(question, &sheet)?;
+    let route = table_route(&sheet, &entries, &document);
+    // Demand 3: a fair table delivers to the same subscriptions as asking each one.
+    assert_eq!(route.delivered, plain_route(&sheet, &document));
+    let kind = match (route.matched, route.delivered) {
+        (0, _) => "no entry matches",
+        (_, 0) => "entries match, to none",
+        _ => "to some",
+    };
+    let values = format!(" {:016x} {}", route.delivered, route.tried);
+    Ok(Values(values, kind))
+}
+
+fn label_bytes(question: &Question) -> Result<Values, Refusal> {
+    let sheet = read_sheet(question)?;
+    let document = read_document(question, &sheet)?;
+    let number = question.numbers[0];
+    let Some(bytes) = label(&sheet, &document, number) else {
+        return Err(refusal(Judged::Number, ASKED));
+    };
+    let of_sheet = number <= sheet.labels.len() as u64;
+    let kind = if of_sheet {
+        "of the sheet"
+    } else {
+        "of the document"
+    };
+    Ok(Values(format!(" {}", hex(bytes)), kind))
+}
+
+/// The kinds of answer that each letter can give when it is done.
+pub fn kinds_of(letter: u8) -> &'static [&'static str] {
+    match letter {
+        b'S' | b'D' | b'T' => &["sound"],
+        b'M' | b'C' => &["no", "yes"],
+        b'G' => &[
+            "i covers j",
+            "j covers i",
+            "built",
+            "clipped",
+            CLIPPED_ONLY_BELOW,
+        ],
+        b'B' => &[
+            "no rounds",
+            "rounds of merges",
+            "cuts of a single entry",
+            CUTS_AMONG_SEVERAL,
+        ],
+        b'P' => &["to none", "to some"],
+        b'R' => &["no entry matches", "entries match, to none", "to some"],
+        _ => &["of the sheet", "of the document"],
+    }
+}
+
+/// The lines for a whole stream, as `ask` writes them.
+pub fn answer_stream(mut stream: &[u8], out: &mut impl Write) -> io::Result<()> {
+    loop {
+        match next_question(&mut stream) {
+            Next::Question(question) => writeln!(out, "{}", answer(&question).line)?,
+            Next::Unknown => return writeln!(out, "unknown"),
+            Next::Cut => return writeln!(out, "cut"),
+            Next::End => return Ok(()),
+        }
+    }
+}
+
+#[cfg(test)]
+mod tests {
+    use super::*;
+    use crate::draw::{ends, Draw};
+
+    #[test]
+    fn a_stream_is_answered_question_by_question() {
+        let mut draw = Draw::new(3);
+        let (mut stream, mut expected) = (Vec::new(), String::new());
+        for _ in 0..120 {
+            let (question, answer) = draw.next();
+            stream.extend(question.bytes());
+            expected += &(answer.line + "\n");
+        }
+        let mut lines = Vec::new();
+        answer_stream(&stream, &mut lines).unwrap();
+        assert_eq!(String::from_utf8(lines).unwrap(), expected);
+    }
+
+    #[test]
+    fn streams_end_as_they_should() {
+        for ending in ends(3, 20) {
+            let mut lines = Vec::new();
+            answer_stream(&ending.stream, &mut lines).unwrap();
+            let expected: String = ending.lines.iter().map(|l| format!("{l}\n")).collect();
+            assert_eq!(String::from_utf8(lines).unwrap(), expected);
+        }
+    }
+
+    #[test]
+    fn a_refusal_shows_zeros_and_the_bytes_as_found() {
+        let mut stream = b"G\x01\0\0".to_vec();
+        stream.extend([0; 16]);
+        stream.extend([2, 0]);
+        stream.extend(b"P\0\0\0\0L\0\0\0\0\0\0\0\0\0\0\0\0x");
+        let mut lines = Vec::new();
+        answer_stream(&stream, &mut lines).unwrap();
+        let expected = "1 0 0 a5a5\n1 0000000000000000 0 64\n1 -\nunknown\n";
+        assert_eq!(String::from_utf8(lines).unwrap(), expected);
+    }
+}

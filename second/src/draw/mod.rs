@@ -1,0 +1,18 @@
+//! Drawing random questions: sound ones, damaged ones, and streams that end in a question.
+
+mod aims;
+mod damage;
+mod documents;
+mod drafts;
+mod effort;
+mod ends;
+mod fields;
+mod label_names;
+mod patterns;
+mod questions;
+mod sheets;
+mod tables;
+
+pub use aims::aims_of;
+pub use ends::ends;
+pub use questions::Draw;

@@ -1,0 +1,308 @@
+//! The rose bench examples of document 01 and the readings that docs/DECISIONS.md takes, asked as questions.
+
+use crate::answers::answer;
+use crate::notation::pattern;
+use crate::question::Question;
+use crate::trees::{written, written_table, Entry};
+
+const ROSE_LABELS: [&str; 3] = ["CD", "SONY", "Bach"];
+const ROSE_PATTERNS: [&str; 3] = ["/CD[/SONY][/*/Bach]", "//CD/Bach", "/CD"];
+const ABC: [&str; 3] = ["a", "b", "c"];
+
+/// A question of a name, the line it should have, and the line it has.
+pub struct Example {
+    pub name: String,
+    pub expected: String,
+    pub got: String,
+}
+
+pub fn all() -> Vec<Example> {
+    let mut list = Vec::new();
+    matching_examples(&mut list);
+    covering_examples(&mut list);
+    merging_examples(&mut list);
+    building_examples(&mut list);
+    limit_examples(&mut list);
+    byte_examples(&mut list);
+    misreadings(&mut list);
+    list
+}
+
+fn add(list: &mut Vec<Example>, name: &str, question: Question, expected: &str) {
+    list.push(Example {
+        name: name.to_string(),
+        expected: expected.to_string(),
+        got: answer(&question).line,
+    });
+}
+
+fn question(letter: u8, sheet: &[u8]) -> Question {
+    Question {
+        letter,
+        sheet: sheet.to_vec(),
+        ..Question::default()
+    }
+}
+
+fn label_section(labels: &[&[u8]]) -> Vec<u8> {
+    let mut bytes = vec![labels.len() as u8];
+    for label in labels {
+        bytes.push(label.len() as u8);
+        bytes.extend(*label);
+    }
+    bytes
+}
+
+fn sheet_of(labels: &[&str], patterns: &[&str]) -> Vec<u8> {
+    let label_bytes: Vec<&[u8]> = labels.iter().map(|l| l.as_bytes()).collect();
+    let mut bytes = label_section(&label_bytes);
+    bytes.push(patterns.len() as u8);
+    for text in patterns {
+        bytes.extend(written(&pattern(text, labels)));
+    }
+    bytes
+}
+
+/// A document of new labels and of nodes (parent, label).
+fn document_of(labels: &[&[u8]], nodes: &[(u16, u8)]) -> Vec<u8> {
+    let mut bytes = label_section(labels);
+    bytes.extend((nodes.len() as u16).to_le_bytes());
+    for (parent, label) in nodes {
+        bytes.extend(parent.to_le_bytes());
+        bytes.push(*label);
+    }
+    bytes
+}
+
+fn rose() -> Vec<u8> {
+    sheet_of(&ROSE_LABELS, &ROSE_PATTERNS)
+}
+
+/// CD over SONY and composer, composer over Bach.
+fn d1() -> Vec<u8> {
+    document_of(&[b"composer"], &[(0, 1), (1, 2), (1, 4), (3, 3)])
+}
+
+fn matching_examples(list: &mut Vec<Example>) {
+    let mut sheet = question(b'S', &rose());
+    add(list, "sheet R is sound", sheet.clone(), "0");
+    let section = [
+        3, 4, 0, 0, 1, 1, 0, 2, 1, 0, 0, 3, 0, 3, 2, 0, 1, 1, 1, 0, 3, 1, 0, 0, 1,
+    ];
+    sheet.sheet = label_section(&[b"CD", b"SONY", b"Bach"]);
+    sheet.sheet.extend(section);
+    assert_eq!(sheet.sheet, rose(), "the pattern section of document 01");
+    for (i, expected) in ["0 1", "0 0", "0 1"].iter().enumerate() {
+        let mut matches = question(b'M', &rose());
+        matches.document = d1();
+        matches.numbers = vec![i as u64];
+        add(list, &format!("1: D1 and s{i}"), matches, expected);
+    }
+    let mut plain = question(b'P', &rose());
+    plain.document = d1();
+    add(list, "1: plain route", plain, "0 0000000000000005 2 0");
+    let mut sony = question(b'P', &rose());
+    sony.document = document_of(&[], &[(0, 2)]);
+    add(list, "2: SONY alone", sony, "0 0000000000000000 0 64");
+    // The second easy way to lose a notice: //CD finds a root named CD.
+    let mut at_root = question(b'P', &sheet_of(&["CD"], &["//CD", "/*", "[//*][//CD]"]));
+    at_root.document = document_of(&[], &[(0, 1)]);
+    add(list, "//CD at the root", at_root, "0 0000000000000007 3 0");
+}
+
+fn covering_examples(list: &mut Vec<Example>) {
+    let mut ask = |name: &str, first: &str, second: &str, yes: u8| {
+        let labels = ["CD", "SONY", "Bach", "b"];
+        let mut covers = question(b'C', &sheet_of(&labels, &[first, second]));
+        covers.numbers = vec![0, 1];
+        add(list, name, covers, &format!("0 {yes}"));
+    };
+    let [s0, s1, s2] = ROSE_PATTERNS;
+    ask("3: s2 covers s0", s2, s0, 1);
+    ask("3: s0 and s2", s0, s2, 0);
+    ask("4: s1 and s0", s1, s0, 0);
+    ask("4: //Bach covers s0", "//Bach", s0, 1);
+    ask("4: //Bach covers s1", "//Bach", s1, 1);
+    ask("5: no steps cover s0", ".", s0, 1);
+    ask("5: //* and no steps", "//*", ".", 0);
+    ask("6: /* and //CD", "/*", "//CD", 0);
+    ask("7: /*//b and //*/b", "/*//b", "//*/b", 0);
+    ask("7: //*/b and /*//b", "//*/b", "/*//b", 0);
+}
+
+/// The merge of two patterns, written with 3 bytes of room to spare.
+fn merging(labels: &[&str], first: &str, second: &str) -> Question {
+    let mut merge = question(b'G', &sheet_of(labels, &[first, second]));
+    merge.numbers = vec![0, 1];
+    merge
+}
+
+fn add_merge(list: &mut Vec<Example>, name: &str, labels: &[&str], texts: [&str; 3]) {
+    let [first, second, merged] = texts;
+    let bytes = written(&pattern(merged, labels));
+    let mut merge = merging(labels, first, second);
+    merge.room = bytes.len() as u16 + 3;
+    let hex = crate::question::hex(&bytes);
+    let expected = format!("0 {} 0 {hex}a5a5a5", bytes.len());
+    add(list, name, merge.clone(), &expected);
+    merge.room = bytes.len() as u16 - 1;
+    let as_found = "a5".repeat(bytes.len() - 1);
+    let expected = format!("10 0 0 {as_found}");
+    add(list, &format!("{name}, no room"), merge, &expected);
+}
+
+fn merging_examples(list: &mut Vec<Example>) {
+    let texts = ["/a/b", "/a/c", "/a/*"];
+    add_merge(list, "8: /a/b with /a/c", &ABC, texts);
+    let [s0, s1, _] = ROSE_PATTERNS;
+    let texts = [s0, s1, "[//CD[/*][//Bach]][//*/Bach]"];
+    add_merge(list, "9: s0 with s1", &ROSE_LABELS, texts);
+}
+
+/// The table of R for a limit, as entries (members, pattern).
+fn rose_table(entries: &[(u64, &str)]) -> Vec<u8> {
+    let entry = |&(members, text): &(u64, &str)| Entry {
+        members,
+        pattern: pattern(text, &ROSE_LABELS),
+    };
+    let entries: Vec<Entry> = entries.iter().map(entry).collect();
+    written_table(&entries)
+}
+
+fn building_examples(list: &mut Vec<Example>) {
+    let limit_3 = rose_table(&[(2, "//CD/Bach"), (5, "/CD")]);
+    let limit_2 = rose_table(&[(7, "//CD")]);
+    let limit_0 = rose_table(&[(7, ".")]);
+    let expected = [(3, &limit_3, 0), (2, &limit_2, 1), (0, &limit_0, 2)];
+    for (limit, table, rounds) in expected {
+        let mut build = question(b'B', &rose());
+        build.limit = limit;
+        build.room = table.len() as u16;
+        let line = format!("0 {} {rounds} {}", table.len(), crate::question::hex(table));
+        let name = format!("10, 11: R at limit {limit}");
+        add(list, &name, build, &line);
+    }
+    let mut route = question(b'R', &rose());
+    route.table = limit_3;
+    route.document = d1();
+    add(list, "12: D1 by the table", route, "0 0000000000000005 4");
+    let mut check = question(b'T', &rose());
+    check.table = rose_table(&[(2, "//CD/Bach"), (5, "/SONY")]);
+    add(list, "a table that is not fair", check, "12");
+}
+
+fn limit_examples(list: &mut Vec<Example>) {
+    for (length, expected) in [(60, "0"), (61, "3")] {
+        let label = vec![7u8; length];
+        let mut sheet = label_section(&[&label]);
+        sheet.push(0);
+        let name = format!("13: a label of {length}");
+        add(list, &name, question(b'S', &sheet), expected);
+    }
+    for (steps, expected) in [(16, "0"), (17, "5")] {
+        let mut sheet = vec![0, 1, steps];
+        for parent in 0..steps {
+            sheet.extend([parent, 0, 0]);
+        }
+        let name = format!("13: {steps} steps");
+        add(list, &name, question(b'S', &sheet), expected);
+    }
+    for (count, expected) in [(1024, "0"), (1025, "5"), (0, "5")] {
+        let nodes: Vec<(u16, u8)> = (0..count).map(|parent| (parent, 1)).collect();
+        let mut check = question(b'D', &rose());
+        check.document = document_of(&[], &nodes);
+        add(list, &format!("13: {count} nodes"), check, expected);
+    }
+    let mut sheet = label_section(&[b"Rosa ? alba"]);
+    sheet.extend([1, 1, 0, 0, 1]);
+    let mut route = question(b'P', &sheet);
+    route.document = document_of(&[b"Rosa \xc3\x97 alba"], &[(0, 2)]);
+    add(
+        list,
+        "14: no sign is replaced",
+        route.clone(),
+        "0 0000000000000000 0 64",
+    );
+    route.letter = b'L';
+    route.numbers = vec![2];
+    let bytes = "0 526f736120c39720616c6261";
+    add(list, "14: the label's bytes", route, bytes);
+}
+
+fn byte_examples(list: &mut Vec<Example>) {
+    let sheets: [(&[u8], &str); 4] = [
+        (&[0x00, 0x41], "5"),
+        (&[0x00, 0x01, 0x11], "5"),
+        (&[0x01, 0x3d], "3"),
+        (&[0, 1, 2, 0, 0, 0, 0, 0], "9"),
+    ];
+    for (sheet, expected) in sheets {
+        let name = format!("sheet {}", crate::question::hex(sheet));
+        add(list, &name, question(b'S', sheet), expected);
+    }
+    for (document, expected) in [(&[0, 0][..], "1"), (&[0, 0, 0], "5")] {
+        let mut check = question(b'D', &[0, 0]);
+        check.document = document.to_vec();
+        let name = format!("document {}", crate::question::hex(document));
+        add(list, &name, check, expected);
+    }
+    for (parents, expected) in [([0, 1, 2, 1], "0"), ([0, 1, 1, 2], "6")] {
+        let mut sheet = vec![0, 1, 4];
+        for parent in parents {
+            sheet.extend([parent, 1, 0]);
+        }
+        let name = format!("parents {parents:?}");
+        add(list, &name, question(b'S', &sheet), expected);
+    }
+}
+
+fn misreadings(list: &mut Vec<Example>) {
+    let merges = [
+        ("near laid on far", ["/b", "/a/b", "[/*][//b]"]),
+        ("inside forgotten", ["//a//a", "//c//a", "//*//a"]),
+        ("no drops", ["/b", "[//c][//b]", "//b"]),
+        ("w' outside", ["//a//b", "/b//a", "[//*//*][//a][//b]"]),
+        (
+            "w' tried before v'",
+            ["/c[/b][//b]", "//c//c/b", "//c[/b][//b]"],
+        ),
+    ];
+    for (name, texts) in merges {
+        add_merge(list, name, &ABC, texts);
+    }
+    let mut sixteen = merging(&ABC, "//a/a/b//a", "/a/b/a/b");
+    sixteen.room = 48;
+    let as_found = format!("10 0 0 {}", "a5".repeat(48));
+    add(list, "the root counted, no room", sixteen, &as_found);
+    unclipped(list, "the root counted", "//a/a/b//a", "/a/b/a/b");
+    let [first, second] = ["/a/c/c/a/b", "//c[/b/b][/c/a]"];
+    unclipped(list, "size tested before drops", first, second);
+}
+
+/// Of these merges the papers say only that they are not clipped (and the steps of one).
+fn unclipped(list: &mut Vec<Example>, name: &str, first: &str, second: &str) {
+    let mut merge = merging(&ABC, first, second);
+    merge.room = 49;
+    let line = answer(&merge).line;
+    let values: Vec<&str> = line.split(' ').collect();
+    let length = if name == "the root counted" {
+        "49"
+    } else {
+        values[1]
+    };
+    list.push(Example {
+        name: name.to_string(),
+        expected: format!("0 {length} 0"),
+        got: values[..3].join(" "),
+    });
+}
+
+#[cfg(test)]
+mod tests {
+    #[test]
+    fn every_example_holds() {
+        for example in super::all() {
+            assert_eq!(example.got, example.expected, "{}", example.name);
+        }
+    }
+}

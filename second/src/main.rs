@@ -1,0 +1,157 @@
+//! The second program: it asks `ask` random questions and compares every line with its own.
+//!
+//! It is written from the customer's demands, the scope document and docs/ASK.md alone, and answers by brute force:
+//! it keeps no notes, works every body of a merge out again, and searches small layings
+//! through all maps of steps. How it is used stands in `USAGE` below (`second --help`).
+
+mod answers;
+mod asking;
+mod building;
+mod comparing;
+mod counts;
+mod covering;
+mod draw;
+mod examples;
+mod labels;
+mod maps;
+mod merging;
+mod notation;
+mod numbers;
+mod question;
+mod random;
+mod reading;
+mod routing;
+mod satisfying;
+mod trees;
+
+use std::io::{self, BufWriter, Read, Write};
+use std::process::ExitCode;
+
+const USAGE: &str = "\
+second SEED COUNT [-- COMMAND ARGS..]
+    Draws COUNT questions from SEED, asks them of COMMAND, and compares every line with
+    this program's own. COMMAND reads questions from its standard input to the end and
+    writes lines to its standard output, as docs/ASK.md says. Without COMMAND it is `./run ask`,
+    started in the current folder. Then some streams are asked that end in an unknown letter
+    or inside a question. A difference is printed, and its bytes go to difference-N.ask in
+    the current folder. At the end, counts of what came up. The status is 1 if there was a
+    difference, or if in 3000 questions or more some refusal or kind of answer never came up.
+
+second SEED COUNT --answers
+    Prints this program's own answers to the same questions, and asks nobody.
+
+second SEED COUNT --questions
+    Writes the bytes of the same questions to standard output.
+
+second --be-ask
+    Is `ask`: reads questions from standard input and writes the lines. So two builds of
+    this program can be compared, and a difference looked at.
+
+second --self-test
+    Checks this program's own answers against the examples of document 01 and the
+    misreadings listed in section 6 of the design.
+
+second --help
+    Prints this.
+";
+
+fn main() -> ExitCode {
+    let args: Vec<String> = std::env::args().skip(1).collect();
+    let args: Vec<&str> = args.iter().map(|arg| arg.as_str()).collect();
+    let done = match args[..] {
+        ["--help"] => print(USAGE),
+        ["--self-test"] => return self_test(),
+        ["--be-ask"] => be_ask(),
+        [seed, count, "--answers"] => with_numbers(seed, count, print_answers),
+        [seed, count, "--questions"] => with_numbers(seed, count, print_questions),
+        [seed, count] => return compare(seed, count, &["./run", "ask"]),
+        [seed, count, "--", ref command @ ..] if !command.is_empty() => {
+            return compare(seed, count, command)
+        }
+        _ => return usage_error(),
+    };
+    match done {
+        Ok(()) => ExitCode::SUCCESS,
+        Err(error) => {
+            eprintln!("second: {error}");
+            ExitCode::FAILURE
+        }
+    }
+}
+
+fn usage_error() -> ExitCode {
+    eprint!("{USAGE}");
+    ExitCode::from(2)
+}
+
+fn print(text: &str) -> io::Result<()> {
+    io::stdout().write_all(text.as_bytes())
+}
+
+fn compare(seed: &str, count: &str, command: &[&str]) -> ExitCode {
+    let (Ok(seed), Ok(count)) = (seed.parse(), count.parse()) else {
+        return usage_error();
+    };
+    let command = command.iter().map(|word| word.to_string()).collect();
+    if comparing::compare(seed, count, command) {
+        ExitCode::SUCCESS
+    } else {
+        ExitCode::FAILURE
+    }
+}
+
+fn with_numbers(
+    seed: &str,
+    count: &str,
+    print: fn(u64, usize) -> io::Result<()>,
+) -> io::Result<()> {
+    match (seed.parse(), count.parse()) {
+        (Ok(seed), Ok(count)) => print(seed, count),
+        _ => Err(io::Error::other("SEED and COUNT are numbers")),
+    }
+}
+
+fn print_answers(seed: u64, count: usize) -> io::Result<()> {
+    let mut out = BufWriter::new(io::stdout().lock());
+    let mut draw = draw::Draw::new(seed);
+    for _ in 0..count {
+        writeln!(out, "{}", draw.next().1.line)?;
+    }
+    out.flush()
+}
+
+fn print_questions(seed: u64, count: usize) -> io::Result<()> {
+    let mut out = BufWriter::new(io::stdout().lock());
+    let mut draw = draw::Draw::new(seed);
+    for _ in 0..count {
+        out.write_all(&draw.next().0.bytes())?;
+    }
+    out.flush()
+}
+
+fn be_ask() -> io::Result<()> {
+    let mut stream = Vec::new();
+    io::stdin().lock().read_to_end(&mut stream)?;
+    let mut out = BufWriter::new(io::stdout().lock());
+    answers::answer_stream(&stream, &mut out)?;
+    out.flush()
+}
+
+fn self_test() -> ExitCode {
+    let mut wrong = 0;
+    let examples = examples::all();
+    for example in &examples {
+        if example.got != example.expected {
+            wrong += 1;
+            println!("{}", example.name);
+            println!("    expected: {}", example.expected);
+            println!("    got:      {}", example.got);
+        }
+    }
+    println!("{} passed, {wrong} failed", examples.len() - wrong);
+    if wrong == 0 {
+        ExitCode::SUCCESS
+    } else {
+        ExitCode::FAILURE
+    }
+}
