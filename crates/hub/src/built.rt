@@ -33,7 +33,7 @@ fn with_entry(t: Table, e: Entry) -> Table
 }
 
 // One entry for each subscription.
-fn first_entries(s: &[u8], v: Subscriptions) -> Table
+pub fn first_entries(s: &[u8], v: Subscriptions) -> Table
     requires { ⌜ SubscriptionsStand (now s) v ⌝ }
     ensures { λ r. ⌜ (tableOf r ≡ entriesFrom 0 (sheetAt (now (s .entry)) .patterns)) × SoundTable r ⌝ }
 {
