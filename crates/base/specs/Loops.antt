@@ -1,8 +1,8 @@
--- What loops compute, each as one definition: a reading run, a test of every number, a fold over numbers, the first hit.
+-- What loops compute, each as one definition: a reading run, a fold over numbers, the first hit.
 -- A loop's invariant is that what is left of it from here gives what all of it gives from the start.
 use Prim.Native.Nat.{ℕ, zero, suc, _+_, _-_, _<_, _≤_}
 use mathlib.Core.Path.{_≡_, sym, ap, _∙_}
-use mathlib.Core.Bool.{Bool, true, false, _&&_, _||_}
+use mathlib.Core.Bool.{Bool}
 use native.Mathlib.Omega.{arith}
 use Rattle.base.specs.Choice.{pick}
 use Rattle.base.specs.declared.Cur.{Cur}
@@ -17,16 +17,6 @@ andThen (No n) f = No n
 unfoldable pub run : (ℕ → ℕ → Cur) → ℕ → ℕ → ℕ → Cur
 run f zero i x = At x
 run f (suc k) i x = andThen (f i x) (λ y. run f k (i + 1) y)
-
--- the test holds of the k numbers from i on
-unfoldable pub allN : (ℕ → Bool) → ℕ → ℕ → Bool
-allN p zero i = true
-allN p (suc k) i = let later = allN p k (i + 1) in p i && later
-
--- the test holds of one of the k numbers from i on
-unfoldable pub anyN : (ℕ → Bool) → ℕ → ℕ → Bool
-anyN p zero i = false
-anyN p (suc k) i = let later = anyN p k (i + 1) in p i || later
 
 -- the first of the k numbers from i on of which the test holds, or i + k
 unfoldable pub scan : (ℕ → Bool) → ℕ → ℕ → ℕ
