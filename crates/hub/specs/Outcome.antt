@@ -21,7 +21,7 @@ use Rattle.shapes.specs.Shapes.{patternOf, tableOf}
 use Rattle.shapes.specs.declared.Pattern.{Pattern}
 use Rattle.shapes.specs.declared.Table
 use Rattle.merging.specs.Merges.{IsMerge}
-use Rattle.merging.specs.declared.Marked.{Marked}
+use Rattle.offering.specs.declared.Marked.{Marked}
 use Rattle.building.specs.Counting.{buildFrom, build-from}
 use Rattle.building.specs.declared.Made.{Made}
 use Rattle.writing.specs.Output.{writtenOver, after-writing}

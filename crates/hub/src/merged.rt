@@ -1,8 +1,8 @@
 // The merge of two subscriptions, written into a lent output.
 use crate::subscribed::numbered;
 use meaning::Merged;
-use merging::Marked;
 use merging::merge;
+use offering::Marked;
 use patterns::subscriptions_in;
 use writing::pattern_length;
 use writing::write_pattern;

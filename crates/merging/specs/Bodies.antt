@@ -19,10 +19,10 @@ use Rattle.shapes.specs.Shapes.{patternOf, stepsIn}
 use Rattle.shapes.specs.declared.Pattern.{Pattern}
 use Rattle.covering.specs.Questions.{childrenOf, childrenLie, liesAt}
 use Rattle.covering.specs.Notes.{Noted, cellOf}
-use Rattle.merging.specs.declared.Marked.{Marked}
-use Rattle.merging.specs.Branches.{joined-branches, buildingAt}
-use Rattle.merging.specs.Offers.{buildingOf, Built}
-use Rattle.merging.specs.Packing.{Packed}
+use Rattle.offering.specs.declared.Marked.{Marked}
+use Rattle.offering.specs.Branches.{joined-branches, buildingAt}
+use Rattle.offering.specs.Offers.{buildingOf, Built}
+use Rattle.packing.specs.Packing.{Packed}
 
 -- the body of step v of p at step w of q
 unfoldable pub bodyFor : List Step → List Step → ℕ → ℕ → Body

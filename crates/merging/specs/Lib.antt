@@ -1,11 +1,4 @@
-pub mod Copying
-pub mod Turns
-pub mod Branches
-pub mod Staying
-pub mod Offers
-pub mod Candidates
 pub mod Scanning
-pub mod Packing
 pub mod Bodies
 pub mod Walks
 pub mod Merges

@@ -9,9 +9,9 @@ use Rattle.shapes.specs.Shapes.{patternOf, stepsIn, SoundPattern}
 use Rattle.shapes.specs.declared.Pattern.{Pattern}
 use Rattle.laws.specs.MergeSize.{merge-first, merge-second}
 use Rattle.covering.specs.Questions.{childrenOf}
-use Rattle.merging.specs.declared.Marked.{Marked}
-use Rattle.merging.specs.Branches.{joined-branches, buildingAt, root-children}
-use Rattle.merging.specs.Offers.{buildingOf, Built}
+use Rattle.offering.specs.declared.Marked.{Marked}
+use Rattle.offering.specs.Branches.{joined-branches, buildingAt, root-children}
+use Rattle.offering.specs.Offers.{buildingOf, Built}
 
 -- a value that is a merge
 pub record IsMerge (r : Marked) (m : Merge) : Type 0 where

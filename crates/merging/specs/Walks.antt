@@ -11,10 +11,10 @@ use Rattle.shapes.specs.Shapes.{patternOf, stepsIn, SoundPattern}
 use Rattle.shapes.specs.declared.Pattern.{Pattern}
 use Rattle.covering.specs.Questions.{childrenOf}
 use Rattle.covering.specs.Turns.{stepIn}
-use Rattle.merging.specs.declared.Marked.{Marked}
-use Rattle.merging.specs.Branches.{branchesOf, buildingAt}
-use Rattle.merging.specs.Offers.{buildingOf, Built, bodyIn, IsBody}
-use Rattle.merging.specs.Candidates.{body-in}
+use Rattle.offering.specs.declared.Marked.{Marked}
+use Rattle.offering.specs.Branches.{branchesOf, buildingAt}
+use Rattle.offering.specs.Offers.{buildingOf, Built, bodyIn, IsBody}
+use Rattle.offering.specs.Candidates.{body-in}
 use Rattle.merging.specs.Scanning.{Meeting, nearChild, meetAll, through-across, restWalks, walk-starts, walk-step}
 use Rattle.merging.specs.Bodies.{bodyFor, meets}
 

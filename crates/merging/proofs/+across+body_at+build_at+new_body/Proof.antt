@@ -9,11 +9,11 @@ use Rattle.shapes.specs.Shapes.{patternOf, stepsIn, SoundPattern}
 use Rattle.covering.specs.Questions.{childrenOf}
 use Rattle.covering.specs.Notes.{cellOf}
 use Rattle.covering.specs.Turns.{stepIn, step-number}
-use Rattle.merging.specs.Turns.{holds-none}
-use Rattle.merging.specs.Offers.{buildingOf, IsBody}
-use Rattle.merging.specs.Candidates.{body-of-itself}
+use Rattle.offering.specs.Turns.{holds-none}
+use Rattle.offering.specs.Offers.{buildingOf, IsBody}
+use Rattle.offering.specs.Candidates.{body-of-itself}
 use Rattle.merging.specs.Scanning.{meetAll, restWalks, walk-ends, walk-done}
-use Rattle.merging.specs.Packing.{unpacked, kept-body}
+use Rattle.packing.specs.Packing.{unpacked, kept-body}
 use Rattle.merging.specs.Bodies.{takes-first, takes-second, makes, Slot, Known, body-kept}
 use Rattle.merging.specs.Walks.{pairOf, acrossOf, across-starts, across-step, builds-nothing, through-starts, through-step}
 use Prim.Native.Nat.{ℕ, _+_, _*_, _-_, _≤_, _<_}
@@ -34,12 +34,12 @@ use Rattle.merging.proofs.+across+body_at+build_at+new_body.Lts-new_bod
 use Rattle.covering.proofs.lies_at.Reads as lies-at-reads
 use Rattle.merging.proofs.both.Reads as both-reads
 use Rattle.merging.proofs.common_label.Reads as common-label-reads
-use Rattle.merging.proofs.made.Reads as made-reads
-use Rattle.merging.proofs.meet.Reads as meet-reads
 use Rattle.merging.proofs.near_child.Reads as near-child-reads
-use Rattle.merging.proofs.pack.Reads as pack-reads
+use Rattle.packing.proofs.pack.Reads as pack-reads
 use Rattle.merging.proofs.taken.Reads as taken-reads
-use Rattle.merging.proofs.unpack.Reads as unpack-reads
+use Rattle.packing.proofs.unpack.Reads as unpack-reads
+use Rattle.offering.proofs.made.Reads as made-reads
+use Rattle.offering.proofs.meet.Reads as meet-reads
 use Rattle.shapes.proofs.no_steps.Reads as no-steps-reads
 use Rattle.merging.proofs.+across+body_at+build_at+new_body.{statement}
 use Rattle.merging.proofs.+across+body_at+build_at+new_body.Tie.{close}
