@@ -1,4 +1,1 @@
-pub mod Says
-pub mod Outcome
-pub mod Growing
 pub mod Sharp

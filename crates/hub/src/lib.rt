@@ -1,13 +1,4 @@
 // The hub's calls: any bytes and any numbers in, an answer out. None requires anything.
-pub mod subscribed; // subscribed.rt: the pattern of a subscription
-pub mod covered; // covered.rt: does one cover another
-pub mod merged; // merged.rt: the merge of two, written
-pub mod built; // built.rt: the table for a limit, written
-
-use crate::built::build_first;
-use crate::covered::covers_numbered;
-use crate::merged::merge_numbered;
-use base::Cur;
 use documents::document_number;
 use fairness::table_number;
 use meaning::Asked;
@@ -15,7 +6,6 @@ use meaning::Built;
 use meaning::Merged;
 use meaning::Routed;
 use meaning::Tabled;
-use reading::sheet;
 use reading::sheet_number;
 use routing::subscription_matches;
 ghost use mathlib.Core.Path.{_≡_};
@@ -54,30 +44,21 @@ pub fn matches(s: &[u8], d: &[u8], i: u64) -> Asked
 pub fn covers(s: &[u8], i: u64, j: u64) -> Asked
     ensures { λ r. ⌜ r ≡ coversAnswer (now (s .entry)) i j ⌝ }
 {
-    match sheet(s) {
-        Cur::At(x) => covers_numbered(s, i, j),
-        Cur::No(n) => Asked::Refused(n),
-    }
+    answers::covers(s, i, j)
 }
 
 // The merge of subscription i with subscription j: a step count and the steps, written from the start of the output.
 pub fn merge(s: &[u8], i: u64, j: u64, out: &mut [u8]) -> Merged
     ensures { λ r. ⌜ (r ≡ mergeAnswer (withRoom (now (out .entry)) (mergeWriting (now (s .entry)) i j))) × (now (out .exit) ≡ after (now (out .entry)) (withRoom (now (out .entry)) (mergeWriting (now (s .entry)) i j))) ⌝ }
 {
-    match sheet(s) {
-        Cur::At(x) => merge_numbered(s, i, j, out),
-        Cur::No(n) => Merged::Refused(n),
-    }
+    answers::merge(s, i, j, out)
 }
 
 // The table for a limit, written from the start of the output.
 pub fn build(s: &[u8], limit: u16, out: &mut [u8]) -> Built
     ensures { λ r. ⌜ (r ≡ buildAnswer (withRoom (now (out .entry)) (buildWriting (now (s .entry)) limit))) × (now (out .exit) ≡ after (now (out .entry)) (withRoom (now (out .entry)) (buildWriting (now (s .entry)) limit))) ⌝ }
 {
-    match sheet(s) {
-        Cur::At(x) => build_first(s, limit, out),
-        Cur::No(n) => Built::Refused(n),
-    }
+    answers::build(s, limit, out)
 }
 
 // The plain route: which subscriptions a document is delivered to.

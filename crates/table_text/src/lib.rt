@@ -1,7 +1,7 @@
 // What the program prints for two bytes of limit and a sheet: the table, or the refusal.
+use answers::built::first_entries;
 use base::Cur;
 use building::build;
-use hub::built::first_entries;
 use patterns::subscriptions_in;
 use printing::put_refused;
 use printing::tables::put_table;

@@ -8,7 +8,7 @@ use Rattle.table_text.proofs.put_built.Tie as tie
 use Rattle.table_text.proofs.put_built.Reads as reads
 use Rattle.table_text.proofs.put_built.Lts as lts
 use Rattle.building.proofs.build.Reads as build-reads
-use Rattle.hub.proofs.built.first_entries.Reads as first-entries-reads
+use Rattle.answers.proofs.built.first_entries.Reads as first-entries-reads
 use Rattle.patterns.proofs.subscriptions_in.Reads as subscriptions-in-reads
 use Rattle.printing.proofs.tables.put_table.Reads as put-table-reads
 

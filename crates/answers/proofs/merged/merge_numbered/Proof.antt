@@ -1,0 +1,64 @@
+-- `merge_numbered` meets its contract: both numbers are looked at first, and a refusal leaves the output as found.
+use native.Mathlib.Omega.{arith}
+use Rattle.patterns.specs.Subscribed.{subscriptions-stand}
+use Rattle.answers.specs.Says.{both-there, first-not-there, second-not-there}
+use Rattle.answers.specs.Outcome.{merge-is, merge-not-there, merge-refuses, merge-same}
+use borrow.Author.Needs.{needs}
+use Rattle.answers.proofs.merged.merge_numbered.Statement.{statement}
+use Rattle.answers.proofs.merged.merge_numbered.Tie as tie
+
+subscriptions-in-requires : tie.Need-subscriptions-in-requires
+subscriptions-in-requires c κs = search needs
+
+returns : tie.Need-returns
+returns c =
+    let start = c .before .before .before .before in
+    let z = subscriptions-stand _ _ (start .pre) (c .before .subscriptions-in .ensures) in
+    merge-refuses _ _ _ (merge-not-there _ _ _ (first-not-there _ (start .args .i) (start .args .j) (omega (arith, z .counted))))
+
+returns-2 : tie.Need-returns-2
+returns-2 c =
+    let start = c .before .before .before .before .before in
+    let z = subscriptions-stand _ _ (start .pre) (c .before .before .subscriptions-in .ensures) in
+    merge-refuses _ _ _ (merge-not-there _ _ _ (second-not-there _ (start .args .i) (start .args .j) (omega (arith, z .counted))))
+
+numbered-requires : tie.Need-numbered-requires
+numbered-requires c κs =
+    let start = c .before .before .before .before .before in
+    (subscriptions-stand _ _ (start .pre) (c .before .before .subscriptions-in .ensures), omega arith)
+
+numbered-requires-2 : tie.Need-numbered-requires-2
+numbered-requires-2 c κs =
+    let start = c .before .before .before .before .before .before in
+    (subscriptions-stand _ _ (start .pre) (c .before .before .before .subscriptions-in .ensures), omega arith)
+
+merge-requires : tie.Need-merge-requires
+merge-requires c κs = search needs
+
+write-merge-requires : tie.Need-write-merge-requires
+write-merge-requires c κs = search needs
+
+same-length : tie.Need-same-length
+same-length c = search needs
+
+returns-3 : tie.Need-returns-3
+returns-3 c =
+    let m = c .before .before .before .before in
+    let start = m .before .before .before .before .before .before .before .before in
+    let z = subscriptions-stand _ _ (start .pre) (m .before .before .before .before .before .subscriptions-in .ensures) in
+    merge-same _ _ _ (merge-is _ _ _ _ _ _ (both-there _ (start .args .i) (start .args .j) (omega (arith, z .counted)) (omega (arith, z .counted)))
+    (m .before .before .numbered .ensures .0) (m .before .numbered2 .ensures .0) (m .merge .ensures)) _ _ (c .before .before .write-merge .ensures)
+
+pub merge-numbered-spec : {M : Type 1} → statement M
+merge-numbered-spec =
+    tie.close
+    (tie.spec
+    subscriptions-in-requires
+    returns
+    returns-2
+    numbered-requires
+    numbered-requires-2
+    merge-requires
+    write-merge-requires
+    same-length
+    returns-3)

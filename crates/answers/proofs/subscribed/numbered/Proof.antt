@@ -1,0 +1,26 @@
+-- `numbered` meets its contract: what stands at the place of a subscription is its pattern.
+use mathlib.Core.Path.{_∙_, ap}
+use Rattle.meaning.specs.Calls.{subscription}
+use Rattle.shapes.specs.Shapes.{patternOf}
+use borrow.Author.Needs.{needs}
+use Rattle.answers.proofs.subscribed.numbered.Statement.{statement}
+use Rattle.answers.proofs.subscribed.numbered.Tie as tie
+
+mul-x : tie.Need-mul-x
+mul-x c = search needs
+
+element-copy-out-x : tie.Need-element-copy-out-x
+element-copy-out-x c = search needs
+
+pattern-at-requires : tie.Need-pattern-at-requires
+pattern-at-requires c κs = search needs
+
+returns : tie.Need-returns
+unfolding subscription
+returns c =
+    let start = c .before .before .before in
+    let t = start .pre .0 .taken (start .args .i) (start .pre .1) in
+    (ap patternOf (c .pattern-at .ensures) ∙ t .0, rw (c .pattern-at .ensures) (t .1))
+
+pub numbered-spec : {M : Type 1} → statement M
+numbered-spec = tie.close (tie.spec mul-x element-copy-out-x pattern-at-requires returns)

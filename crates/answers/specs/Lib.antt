@@ -1,0 +1,3 @@
+pub mod Says
+pub mod Outcome
+pub mod Growing
