@@ -16,10 +16,12 @@ use Rattle.meaning.specs.Reader.{read, refused, Reader, go-on, _>>=_, _>>_, giv
 use Rattle.meaning.specs.Sections.{labels, nodeParent, Node, aNode, nodes, Sheet, sheet, Document, document}
 use Rattle.meaning.specs.Calls.{documentNumber}
 use Rattle.shapes.specs.Shapes.{nodesAt}
-use Rattle.reading.specs.Places.{pairAt, textsAt, sheetAt}
-use Rattle.reading.specs.Judging.{labelsPlace, endPlace, numberAt}
-use Rattle.reading.specs.Answer.{two, answer, answer-pick, andThen-pick, then-answer, then-give, then-byte, then-unless, then-end, go-on-pick, pick-both, passed, number-of-answer, answer-value}
-use Rattle.reading.specs.LabelsRead.{document-labels-read, labels-lead}
+use Rattle.places.specs.Bytes.{pairAt, endPlace, numberAt}
+use Rattle.labels.specs.Places.{textsAt}
+use Rattle.reading.specs.Places.{sheetAt}
+use Rattle.labels.specs.Judging.{labelsPlace}
+use Rattle.places.specs.Answer.{two, answer, answer-pick, andThen-pick, then-answer, then-give, then-byte, then-unless, then-end, go-on-pick, pick-both, passed, number-of-answer, answer-value}
+use Rattle.labels.specs.LabelsRead.{document-labels-read, labels-lead}
 use Rattle.reading.specs.SheetRead.{sheet-is, after-sheet, length-texts}
 use Rattle.documents.specs.Judging.{nodeLabel, nodePlace, nodesPlace, documentPlace, bothPlace, nodeCountAt, documentAt}
 

@@ -9,8 +9,10 @@ use Rattle.base.specs.Standing.{placeAfter}
 use Rattle.base.specs.declared.Cur.{Cur}
 use Rattle.base.specs.declared.Cur.the-variants.{At, No}
 use Rattle.meaning.specs.Sections.{nodeParent, Document}
-use Rattle.reading.specs.Places.{pairAt, afterLabel, textsAt}
-use Rattle.reading.specs.Judging.{labelsPlace, endPlace, sheetPlace}
+use Rattle.places.specs.Bytes.{pairAt, endPlace}
+use Rattle.labels.specs.Places.{afterLabel, textsAt}
+use Rattle.labels.specs.Judging.{labelsPlace}
+use Rattle.reading.specs.Judging.{sheetPlace}
 use Rattle.shapes.specs.Shapes.{nodesAt}
 
 -- the last byte of a node, its label

@@ -14,9 +14,10 @@ use Rattle.base.specs.declared.Cur.the-variants.{At, No}
 use Rattle.meaning.specs.Sections.{Sheet, sheet, Document, document}
 use Rattle.meaning.specs.LabelBytes.{labelsOf, isLabel, labelAt}
 use Rattle.meaning.specs.Calls.{judged, labelNumber, labelPart}
-use Rattle.reading.specs.Places.{textAt, afterLabel, textsAt, sheetAt}
+use Rattle.labels.specs.Places.{textAt, afterLabel, textsAt}
+use Rattle.reading.specs.Places.{sheetAt}
 use Rattle.reading.specs.Judging.{sheetPlace}
-use Rattle.reading.specs.Answer.{answer}
+use Rattle.places.specs.Answer.{answer}
 use Rattle.reading.specs.SheetRead.{sheet-read, length-texts}
 use Rattle.documents.specs.Judging.{documentPlace, bothPlace, documentAt}
 use Rattle.documents.specs.DocumentRead.{document-read}

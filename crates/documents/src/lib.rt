@@ -1,19 +1,19 @@
 // Reading documents beside a sheet: labels and nodes are judged by places in the lent bytes (specs/Judging.antt), and what
 // that gives is what a document means.
 use base::Cur;
-use reading::byte_at;
-use reading::end;
-use reading::labels::after_labels;
-use reading::labels::labels;
-use reading::labels::text_at;
-use reading::pair_at;
+use labels::after_labels;
+use labels::labels;
+use labels::text_at;
+use places::byte_at;
+use places::end;
+use places::pair_at;
 use reading::sheet;
 ghost use mathlib.Core.Path.{_≡_};
 ghost use Prim.Native.Nat.{_+_, _<_};
 ghost use Rattle.base.specs.Loops.{run};
 ghost use Rattle.meaning.specs.Sections.{nodeParent};
 ghost use Rattle.meaning.specs.Calls.{documentNumber, labelNumber, labelPart};
-ghost use Rattle.reading.specs.Places.{pairAt};
+ghost use Rattle.places.specs.Bytes.{pairAt};
 ghost use Rattle.documents.specs.Judging.{nodeLabel, nodePlace, nodesPlace, documentPlace, bothPlace, nodeCountAt};
 
 // Node 1 has parent 0, every other a parent from 1 to its own number less 1.

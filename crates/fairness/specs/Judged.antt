@@ -14,8 +14,9 @@ use Rattle.meaning.specs.Sections.{Sheet, sheet, Entry}
 use Rattle.meaning.specs.Fair.{fair, eachInOne}
 use Rattle.meaning.specs.Calls.{judged, fairTable, tableNumber}
 use Rattle.reading.specs.Places.{sheetAt}
-use Rattle.reading.specs.Judging.{sheetPlace, numberAt}
-use Rattle.reading.specs.Answer.{answer, then-answer, number-of-answer, passed-on}
+use Rattle.reading.specs.Judging.{sheetPlace}
+use Rattle.places.specs.Bytes.{numberAt}
+use Rattle.places.specs.Answer.{answer, then-answer, number-of-answer, passed-on}
 use Rattle.reading.specs.Judged.{reached, judged-answer, sheet-judged, reached-twice, sheet-stands}
 use Rattle.reading.specs.SheetRead.{after-sheet}
 use Rattle.patterns.specs.declared.Subscriptions.{Subscriptions}

@@ -16,7 +16,7 @@ use Rattle.shapes.specs.Shapes.{stepsIn, patternOf, SoundPattern}
 use Rattle.laws.specs.Judged.{steps-written}
 use Rattle.reading.specs.Places.{stepAt, afterStep, stepsAt, forestAt, afterPattern, forestsAt, patternCountAt, sheetAt}
 use Rattle.reading.specs.Judging.{patternPlace, nextPattern}
-use Rattle.reading.specs.Answer.{answer, passed, answer-value, answer-place}
+use Rattle.places.specs.Answer.{answer, passed, answer-value, answer-place}
 use Rattle.reading.specs.StepsRead.{steps-read, steps-lead, steps-within}
 use Rattle.reading.specs.SheetRead.{pattern-read, pattern-leads, sheet-is, patterns-stand}
 use Rattle.patterns.specs.Taken.{patternAt, itself, patternPlaces, subscriptionCount, subscriptionsOf}

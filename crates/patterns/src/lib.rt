@@ -1,7 +1,7 @@
 // Patterns by value out of a sheet or a table, and where the subscriptions of a sheet stand.
+use labels::after_labels;
 use meaning::Step;
-use reading::byte_at;
-use reading::labels::after_labels;
+use places::byte_at;
 use shapes::Pattern;
 ghost use mathlib.Core.Path.{_≡_};
 ghost use Prim.Native.Nat.{_+_, _*_, _^_, _≤_, _<_};

@@ -9,7 +9,7 @@ use Rattle.base.specs.Standing.{placeAfter, length-standing, getD-standing}
 use Rattle.meaning.specs.Forest.{near, far, axisOf}
 use Rattle.meaning.specs.LabelBytes.{labelAt}
 use Rattle.meaning.specs.Printing.{ascii, axisText, labelText}
-use Rattle.reading.specs.Places.{textAt, afterLabel, textsAt}
+use Rattle.labels.specs.Places.{textAt, afterLabel, textsAt}
 use Rattle.printing.specs.Output.{Written, putByte, put}
 
 -- ---- a byte or nothing

@@ -1,10 +1,10 @@
 // A pattern's text: / near, // far, * any; one child follows at once, several stand in brackets; a dot without steps.
 use crate::put_bytes;
 use crate::put_if;
+use labels::after_labels;
+use labels::text_at;
 use meaning::Step;
-use reading::byte_at;
-use reading::labels::after_labels;
-use reading::labels::text_at;
+use places::byte_at;
 use shapes::Pattern;
 ghost use mathlib.Core.Path.{_≡_};
 ghost use Rattle.meaning.specs.Forest.{axisOf};

@@ -11,7 +11,7 @@ use Rattle.meaning.specs.Sections.{Sheet, sheet}
 use Rattle.meaning.specs.Calls.{judged}
 use Rattle.reading.specs.Places.{sheetAt}
 use Rattle.reading.specs.Judging.{sheetPlace}
-use Rattle.reading.specs.Answer.{answer}
+use Rattle.places.specs.Answer.{answer}
 use Rattle.reading.specs.SheetRead.{sheet-read}
 
 module _ {B : Type 0} where

@@ -1,4 +1,4 @@
--- How sheets are judged by places in their bytes: each reader gives the next place, or the number of the first fault.
+-- How patterns and sheets are judged by places in their bytes: each reader gives the next place, or the number of the first fault.
 use Prim.Native.Nat.{ℕ, zero, suc, _+_, _*_, _-_}
 use mathlib.Core.List.{List}
 use mathlib.Core.Bool.{Bool, true, false, _&&_}
@@ -9,30 +9,10 @@ use Rattle.base.specs.Lists.{some}
 use Rattle.base.specs.Loops.{andThen, run}
 use Rattle.base.specs.declared.Cur.{Cur}
 use Rattle.base.specs.declared.Cur.the-variants.{At, No}
-use Rattle.meaning.specs.Sections.{sameLabel, nearRoot, isNearRoot}
-use Rattle.reading.specs.Places.{textAt, textsAt, stepsAt}
-
--- ---- labels
-
--- a label at x, the i-th of those from the place p on in d, beside the first k labels of the sheet s
-unfoldable pub labelPlace : List ℕ → ℕ → List ℕ → ℕ → ℕ → ℕ → Cur
-labelPlace s k d p i x =
-    let long = getD d x 0 in
-    let text = textAt d x in
-    pick (ltb x (length d))
-    (pick (leb 1 long)
-    (pick (leb long 60)
-    (pick (leb long (length d - (x + 1)))
-    (pick (some (sameLabel text) (textsAt s 1 k)) (No 4)
-    (pick (some (sameLabel text) (textsAt d p i)) (No 4) (At (x + 1 + long))))
-    (No 1))
-    (No 3))
-    (No 3))
-    (No 1)
-
--- n labels from the place p on in d, beside the first k labels of the sheet s
-unfoldable pub labelsPlace : List ℕ → ℕ → List ℕ → ℕ → ℕ → Cur
-labelsPlace s k d p n = run (labelPlace s k d p) n 0 p
+use Rattle.meaning.specs.Sections.{nearRoot, isNearRoot}
+use Rattle.reading.specs.Places.{stepsAt}
+use Rattle.labels.specs.Judging.{labelsPlace}
+use Rattle.places.specs.Bytes.{endPlace}
 
 -- ---- steps
 
@@ -77,10 +57,6 @@ patternPlace s known x =
 unfoldable pub nextPattern : List ℕ → ℕ → ℕ → ℕ → Cur
 nextPattern s known i x = patternPlace s known x
 
--- no byte remains
-unfoldable pub endPlace : List ℕ → ℕ → Cur
-endPlace s x = pick (leb (length s) x) (At x) (No 2)
-
 -- ---- sheet
 
 -- the patterns of a sheet from their count at x on, with so many labels, to the end
@@ -96,8 +72,3 @@ sheetPlace s =
     pick (ltb 0 (length s))
     (andThen (labelsPlace s 0 s 1 (getD s 0 0)) (λ x. andThen (patternsPlace s (getD s 0 0) x) (endPlace s)))
     (No 1)
-
--- the number for a place or a fault
-unfoldable pub numberAt : Cur → ℕ
-numberAt (At x) = 0
-numberAt (No n) = n

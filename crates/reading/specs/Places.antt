@@ -1,31 +1,12 @@
--- Where labels, steps and patterns stand in bytes, and what stands there: for any bytes and any place.
+-- Where steps, patterns and sheets stand in bytes, and what stands there: for any bytes and any place.
 use Prim.Native.Nat.{ℕ, _+_, _*_}
 use mathlib.Core.List.{List}
-use lib.Dec.{ltb}
-use lib.ListN.{length, getD, take, drop}
-use Rattle.base.specs.Choice.{pick}
+use lib.ListN.{getD}
 use Rattle.base.specs.Standing.{standing, placeAfter}
 use Rattle.meaning.specs.Forest.{Forest, forest}
 use Rattle.meaning.specs.Sections.{Sheet}
 use Rattle.meaning.specs.declared.Step.{Step}
-
--- the number of two bytes at x, the low one first
-unfoldable pub pairAt : List ℕ → ℕ → ℕ
-pairAt s x = getD s x 0 + 256 * getD s (x + 1) 0
-
--- ---- labels
-
--- the bytes of the label whose length byte stands at p
-unfoldable pub textAt : List ℕ → ℕ → List ℕ
-textAt s p = take (getD s p 0) (drop (p + 1) s)
-
--- the place after that label; past the end there is none
-unfoldable pub afterLabel : List ℕ → ℕ → ℕ
-afterLabel s p = pick (ltb p (length s)) (p + 1 + getD s p 0) p
-
--- n labels from the place p on
-unfoldable pub textsAt : List ℕ → ℕ → ℕ → List (List ℕ)
-textsAt s = standing (textAt s) (afterLabel s)
+use Rattle.labels.specs.Places.{textsAt, afterLabel}
 
 -- ---- steps: parent, axis, label
 

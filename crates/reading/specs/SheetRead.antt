@@ -1,5 +1,5 @@
 -- Patterns and sheets judged by places are patterns and sheets as the paper reads them.
-use Prim.Native.Nat.{ℕ, _+_, _-_}
+use Prim.Native.Nat.{ℕ, _+_}
 use mathlib.Core.Path.{_≡_, refl, sym, ap, _∙_}
 use mathlib.Core.Bool.{true}
 use mathlib.Core.List.{List, []}
@@ -13,10 +13,13 @@ use Rattle.meaning.specs.Reader.{read, refused, go-on, _>>=_, _>>_, give, unles
 use Rattle.meaning.specs.Forest.{Forest}
 use Rattle.meaning.specs.Sections.{pattern, labels, Sheet, sheet}
 use Rattle.meaning.specs.Calls.{judged, sheetNumber}
-use Rattle.reading.specs.Places.{textsAt, textAt, afterLabel, patternCountAt, sheetAt, forestAt, afterPattern, forestsAt}
-use Rattle.reading.specs.Judging.{labelsPlace, patternPlace, nextPattern, patternsPlace, endPlace, sheetPlace, numberAt}
-use Rattle.reading.specs.Answer.{answer, answer-pick, andThen-pick, then-end, number-of-answer, answer-value, then-answer, then-give, passed, passed-on, answer-place, then-byte, then-unless, repeat-read}
-use Rattle.reading.specs.LabelsRead.{sheet-labels-read, labels-lead}
+use Rattle.labels.specs.Places.{textsAt, textAt, afterLabel}
+use Rattle.reading.specs.Places.{patternCountAt, sheetAt, forestAt, afterPattern, forestsAt}
+use Rattle.labels.specs.Judging.{labelsPlace}
+use Rattle.reading.specs.Judging.{patternPlace, nextPattern, patternsPlace, sheetPlace}
+use Rattle.places.specs.Bytes.{endPlace, numberAt}
+use Rattle.places.specs.Answer.{answer, answer-pick, andThen-pick, then-end, number-of-answer, answer-value, then-answer, then-give, passed, passed-on, answer-place, then-byte, then-unless, repeat-read}
+use Rattle.labels.specs.LabelsRead.{sheet-labels-read, labels-lead}
 use Rattle.reading.specs.StepsRead.{steps-read, steps-lead}
 
 module _ (s : List ℕ) (known : ℕ) where

@@ -21,7 +21,7 @@ use Rattle.meaning.specs.Sections.{upFrom, pathAfter, mayHang, aStep, steps}
 use Rattle.meaning.specs.declared.Step.{Step}
 use Rattle.reading.specs.Places.{stepAt, afterStep, stepsAt}
 use Rattle.reading.specs.Judging.{climbs, stepLabel, isSecondNear, stepPlace}
-use Rattle.reading.specs.Answer.{answer, answer-pick, then-answer, then-give, passed, passed-not, then-byte, then-unless, pick-not, two}
+use Rattle.places.specs.Answer.{answer, answer-pick, then-answer, then-give, passed, passed-not, then-byte, then-unless, pick-not, two}
 
 -- equal either way round
 eqb-turned : (a b : ℕ) → eqb a b ≡ eqb b a

@@ -1,7 +1,7 @@
 // A pattern, and a section of patterns.
-use crate::byte_at;
 use crate::steps::steps;
 use base::Cur;
+use places::byte_at;
 ghost use mathlib.Core.Path.{_≡_};
 ghost use Rattle.base.specs.Loops.{run};
 ghost use Rattle.reading.specs.Judging.{patternPlace, nextPattern, patternsPlace};

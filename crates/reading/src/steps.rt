@@ -1,6 +1,6 @@
 // The steps of a pattern: where a step may hang, whether a near step stands at the root, and the judging of all.
-use crate::byte_at;
 use base::Cur;
+use places::byte_at;
 ghost use mathlib.Core.Path.{_≡_};
 ghost use Prim.Native.Nat.{_+_, _*_, _^_, _≤_, _<_};
 ghost use lib.ListN.{length};

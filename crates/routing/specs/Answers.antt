@@ -14,7 +14,8 @@ use Rattle.meaning.specs.declared.Routed.the-variants as routed
 use Rattle.meaning.specs.declared.Tabled.{Tabled}
 use Rattle.meaning.specs.declared.Tabled.the-variants as tabled
 use Rattle.shapes.specs.Shapes.{nodesAt}
-use Rattle.reading.specs.Places.{pairAt, sheetAt}
+use Rattle.places.specs.Bytes.{pairAt}
+use Rattle.reading.specs.Places.{sheetAt}
 use Rattle.documents.specs.Judging.{bothPlace, documentPlace, nodeCountAt, documentAt}
 use Rattle.tables.specs.Standing.{tableAt}
 use Rattle.fairness.specs.Judged.{fairPlace, fair-judged}

@@ -14,10 +14,12 @@ use Rattle.meaning.specs.Calls.{judged}
 use Rattle.shapes.specs.Shapes.{nodesAt}
 use Rattle.laws.specs.Rising.{Rising}
 use Rattle.laws.specs.Judged.{document-rises}
-use Rattle.reading.specs.Places.{pairAt, sheetAt}
-use Rattle.reading.specs.Judging.{sheetPlace, labelsPlace}
-use Rattle.reading.specs.Answer.{answer, passed, passed-on}
-use Rattle.reading.specs.LabelsRead.{labels-lead}
+use Rattle.places.specs.Bytes.{pairAt}
+use Rattle.reading.specs.Places.{sheetAt}
+use Rattle.reading.specs.Judging.{sheetPlace}
+use Rattle.labels.specs.Judging.{labelsPlace}
+use Rattle.places.specs.Answer.{answer, passed, passed-on}
+use Rattle.labels.specs.LabelsRead.{labels-lead}
 use Rattle.reading.specs.Judged.{reached, judged-answer, sheet-judged, reached-twice, SheetStands, sheet-stands}
 use Rattle.documents.specs.Judging.{nodeLabel, nodePlace, nodesPlace, documentPlace, bothPlace, nodeCountAt, documentAt}
 use Rattle.documents.specs.DocumentRead.{document-read}

@@ -14,7 +14,7 @@ use meaning::Tabled;
 use patterns::Subscriptions;
 use patterns::pattern_at;
 use patterns::subscriptions_in;
-use reading::byte_at;
+use places::byte_at;
 use shapes::Entry;
 use tables::Entries;
 use tables::entries_in;

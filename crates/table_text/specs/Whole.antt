@@ -15,7 +15,8 @@ use Rattle.meaning.specs.Calls.{judged}
 use Rattle.meaning.specs.Printing.{tableText, refusedText, Asking, asking, printed}
 use Rattle.shapes.specs.Shapes.{tableOf}
 use Rattle.shapes.specs.declared.Table.{Table}
-use Rattle.reading.specs.Places.{sheetAt, pairAt}
+use Rattle.reading.specs.Places.{sheetAt}
+use Rattle.places.specs.Bytes.{pairAt}
 use Rattle.reading.specs.Judging.{sheetPlace}
 use Rattle.reading.specs.Judged.{reached, sheet-judged, SheetStands, sheet-stands}
 use Rattle.building.specs.Counting.{buildFrom, build-from}

@@ -14,8 +14,9 @@ use Rattle.meaning.specs.Sections
 use Rattle.meaning.specs.Calls.{judged}
 use Rattle.shapes.specs.declared.Entry.{Entry}
 use Rattle.reading.specs.Places.{forestAt, afterPattern}
-use Rattle.reading.specs.NumberRead.{numberIn}
-use Rattle.reading.specs.Judging.{patternPlace, endPlace, sheetPlace}
+use Rattle.places.specs.NumberRead.{numberIn}
+use Rattle.reading.specs.Judging.{patternPlace, sheetPlace}
+use Rattle.places.specs.Bytes.{endPlace}
 use Rattle.patterns.specs.Taken.{itself, patternAt}
 use Rattle.tables.specs.declared.Entries.{Entries}
 

@@ -16,9 +16,9 @@ use Rattle.meaning.specs.Forest.{Forest}
 use Rattle.meaning.specs.Sections.{Entry, entry, pattern, Sheet, sheet, table}
 use Rattle.shapes.specs.Shapes.{SoundPattern, entryOf}
 use Rattle.reading.specs.Places.{sheetAt}
-use Rattle.reading.specs.Judging.{endPlace, numberAt}
-use Rattle.reading.specs.Answer.{answer, answer-pick, then-answer, then-give, then-byte, then-unless, then-end, repeat-read, passed, passed-on, number-of-answer, answer-value, answer-place}
-use Rattle.reading.specs.NumberRead.{numberIn, then-number}
+use Rattle.places.specs.Bytes.{endPlace, numberAt}
+use Rattle.places.specs.Answer.{answer, answer-pick, then-answer, then-give, then-byte, then-unless, then-end, repeat-read, passed, passed-on, number-of-answer, answer-value, answer-place}
+use Rattle.places.specs.NumberRead.{numberIn, then-number}
 use Rattle.reading.specs.SheetRead.{pattern-read, pattern-leads, length-texts, sheet-is, after-sheet}
 use Rattle.patterns.specs.Taken.{itself}
 use Rattle.patterns.specs.TakenRead.{taken-sound}

@@ -3,9 +3,9 @@
 use base::Cur;
 use patterns::after_pattern;
 use patterns::pattern_at;
-use reading::byte_at;
-use reading::end;
-use reading::pair_at;
+use places::byte_at;
+use places::end;
+use places::pair_at;
 use reading::patterns::pattern;
 use reading::sheet;
 use shapes::Entry;
@@ -14,7 +14,7 @@ ghost use Prim.Native.Nat.{_+_, _*_, _-_, _<_};
 ghost use lib.Dec.{leb};
 ghost use lib.ListN.{length};
 ghost use Rattle.base.specs.Loops.{run};
-ghost use Rattle.reading.specs.NumberRead.{numberIn};
+ghost use Rattle.places.specs.NumberRead.{numberIn};
 ghost use Rattle.tables.specs.Judging.{entryPlace, tablePlace, bothPlace, tableBytesNumber, entryAt, entryPlaces, entriesOf};
 
 // How many entries a table has, and the place of each; behind those, the places go on in the same way.

@@ -1,6 +1,6 @@
 -- `documents::document_number` meets its contract.
 use Rattle.documents.specs.DocumentRead.{document-number}
-use Rattle.reading.specs.Judging.{numberAt}
+use Rattle.places.specs.Bytes.{numberAt}
 use denote.Ref.{now}
 use mathlib.Core.Path.{sym, _∙_, ap}
 use borrow.Author.Needs.{needs}

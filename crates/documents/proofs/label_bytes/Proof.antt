@@ -1,5 +1,5 @@
 -- `documents::label_bytes` meets its contract.
-use Rattle.reading.specs.Places.{textAt, afterLabel}
+use Rattle.labels.specs.Places.{textAt, afterLabel}
 use Rattle.base.specs.Standing.{placeAfter}
 use Prim.Native.Nat.{ℕ, _-_}
 use Rattle.documents.specs.LabelRead.{part-refused, part-zero, part-of-sheet, part-of-document, part-over}

@@ -1,7 +1,7 @@
 -- `fairness::table_number` meets its contract: the number of the place that was reached.
 use mathlib.Core.Path.{sym, ap, _∙_}
 use borrow.Author.Needs.{needs}
-use Rattle.reading.specs.Judging.{numberAt}
+use Rattle.places.specs.Bytes.{numberAt}
 use Rattle.fairness.specs.Judged.{table-number}
 use Rattle.fairness.proofs.table_number.Statement.{statement}
 use Rattle.fairness.proofs.table_number.Tie as tie

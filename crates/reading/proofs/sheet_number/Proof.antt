@@ -1,7 +1,7 @@
 -- `reading::sheet_number` meets its contract.
 use mathlib.Core.Path.{sym, _∙_, ap}
 use denote.Ref.{now}
-use Rattle.reading.specs.Judging.{numberAt}
+use Rattle.places.specs.Bytes.{numberAt}
 use Rattle.reading.specs.SheetRead.{sheet-number}
 use borrow.Author.Needs.{needs}
 use Rattle.reading.proofs.sheet_number.Statement.{statement}

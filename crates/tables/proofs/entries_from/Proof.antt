@@ -4,7 +4,7 @@ use mathlib.Core.Path.{_≡_, sym}
 use Prim.Native.Nat.{_-_}
 use denote.Ref.{now}
 use Rattle.base.specs.Loops.{run, run-starts, run-ends}
-use Rattle.reading.specs.Turns.{reads-on, reads-fault}
+use Rattle.places.specs.Turns.{reads-on, reads-fault}
 use Rattle.tables.specs.Judging.{entryPlace}
 use borrow.Author.Needs.{needs}
 use native.Mathlib.Omega.{arith}

@@ -1,7 +1,7 @@
 -- `tables::members_at` meets its contract.
 use native.Mathlib.Omega.{arith}
 use denote.Ref.{now}
-use Rattle.reading.specs.NumberRead.{eight-bytes, number-past}
+use Rattle.places.specs.NumberRead.{eight-bytes, number-past}
 use borrow.Author.Needs.{needs}
 use Rattle.tables.proofs.members_at.Statement.{statement}
 use Rattle.tables.proofs.members_at.Tie as tie

@@ -1,6 +1,6 @@
 -- `tables::table_bytes_number` meets its contract.
 use Rattle.tables.specs.TableRead.{table-bytes-number}
-use Rattle.reading.specs.Judging.{numberAt}
+use Rattle.places.specs.Bytes.{numberAt}
 use denote.Ref.{now}
 use mathlib.Core.Path.{sym, _∙_, ap}
 use borrow.Author.Needs.{needs}

@@ -1,7 +1,7 @@
 -- `printing::patterns::put_label` meets its contract. Any, no label, or the bytes at the label's place.
 use mathlib.Core.Path.{sym, ap, _∙_}
 use native.Mathlib.Omega.{arith}
-use Rattle.reading.specs.Places.{textAt}
+use Rattle.labels.specs.Places.{textAt}
 use Rattle.printing.specs.Output.{put-is, put-nothing}
 use Rattle.printing.specs.Texts.{any-text, no-text, label-text}
 use borrow.Author.Needs.{needs}

@@ -1,0 +1,48 @@
+-- `reading::labels::after_labels` meets its contract.
+-- The invariant: what is left from here gives what all gives from the start; the measure: what is left.
+use mathlib.Core.Path.{_≡_}
+use Prim.Native.Nat.{_+_, _*_, _-_, _≤_}
+use denote.Ref.{now}
+use Rattle.base.specs.Standing.{placeAfter, place-starts, place-goes-on, place-ends}
+use Rattle.labels.specs.Places.{afterLabel}
+use borrow.Author.Needs.{needs}
+use native.Mathlib.Omega.{arith}
+use Rattle.labels.proofs.after_labels.Statement.{statement}
+use Rattle.labels.proofs.after_labels.Tie as tie
+
+abbrev Inv-loop : tie.InvT-loop
+Inv-loop s p n i₀ x₀ i x = (x ≤ p + 256 * i) × (i ≤ n) × (placeAfter (afterLabel s) x (n - i) ≡ placeAfter (afterLabel s) p n)
+
+abbrev μ-loop : tie.MeasureT-loop
+μ-loop s p n i₀ x₀ i x = n - i
+
+loop-holds : tie.Need-loop-holds Inv-loop μ-loop
+loop-holds c =
+    let a = c .before .args in
+    (omega arith, omega arith, place-starts (afterLabel (now (a .s))) (a .n) 0 (a .p) (placeAfter (afterLabel (now (a .s))) (a .p) (a .n)))
+
+after-label-requires : tie.Need-after-label-requires Inv-loop μ-loop
+after-label-requires c κs = search needs
+
+add-i : tie.Need-add-i Inv-loop μ-loop
+add-i c = omega arith
+
+loop-less : tie.Need-loop-less Inv-loop μ-loop
+loop-less c = omega arith
+
+loop-again : tie.Need-loop-again Inv-loop μ-loop
+loop-again c =
+    let a = c .before .before .before .before .args in
+    let l = c .before .before .loop in
+    (omega arith, omega arith, place-goes-on (afterLabel (now (a .s))) (a .n) (l .i) (l .x) _ (c .after-label .result) (omega arith) (c .after-label .ensures .0) (l .inv .2))
+
+returns : tie.Need-returns Inv-loop μ-loop
+returns c =
+    let a = c .before .before .before .args in
+    let l = c .before .loop in
+    (place-ends (afterLabel (now (a .s))) (a .n) (l .i) (l .x) _ (omega arith) (l .inv .2), omega arith)
+
+pub after-labels-spec : {M : Type 1} → statement M
+after-labels-spec =
+    tie.close
+    (tie.spec Inv-loop μ-loop loop-holds after-label-requires add-i loop-less loop-again returns)

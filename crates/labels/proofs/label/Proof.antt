@@ -1,0 +1,98 @@
+-- `reading::labels::label` meets its contract.
+use Rattle.base.specs.Choice.{picks}
+use Rattle.labels.specs.Judging.{labelPlace}
+use borrow.Author.Needs.{needs}
+use Rattle.labels.proofs.label.Statement.{statement}
+use Rattle.labels.proofs.label.Tie as tie
+
+returns : tie.Need-returns
+unfolding labelPlace
+returns c = search picks depth 15
+
+byte-at-requires : tie.Need-byte-at-requires
+byte-at-requires c κs = search needs
+
+returns-2 : tie.Need-returns-2
+unfolding labelPlace
+returns-2 c = rw (← (c .before .byte-at .ensures .0)) (search picks depth 15)
+
+returns-3 : tie.Need-returns-3
+unfolding labelPlace
+returns-3 c = rw (← (c .before .before .byte-at .ensures .0)) (search picks depth 15)
+
+add-if4 : tie.Need-add-if4
+add-if4 c = search needs
+
+sub-if4 : tie.Need-sub-if4
+sub-if4 c = search needs
+
+returns-4 : tie.Need-returns-4
+unfolding labelPlace
+returns-4 c = rw (← (c .before .before .before .byte-at .ensures .0)) (search picks depth 15)
+
+text-at-requires : tie.Need-text-at-requires
+text-at-requires c κs = search needs
+
+occurs-requires : tie.Need-occurs-requires
+occurs-requires c κs = search needs
+
+returns-5 : tie.Need-returns-5
+unfolding labelPlace
+returns-5 c =
+    rw (
+      ← (c .before .before .before .before .before .before .byte-at .ensures .0),
+      ← (c .before .before .text-at .ensures),
+      ← (c .before .occurs .ensures),
+    )
+    (search picks depth 15)
+
+occurs-requires-2 : tie.Need-occurs-requires-2
+occurs-requires-2 c κs = search needs
+
+returns-6 : tie.Need-returns-6
+unfolding labelPlace
+returns-6 c =
+    rw (
+      ← (c .before .before .before .before .before .before .before .before .byte-at .ensures .0),
+      ← (c .before .before .before .before .text-at .ensures),
+      ← (c .before .before .before .occurs .ensures),
+      ← (c .before .occurs2 .ensures),
+    )
+    (search picks depth 15)
+
+add-t9 : tie.Need-add-t9
+add-t9 c = search needs
+
+add-t11 : tie.Need-add-t11
+add-t11 c = search needs
+
+returns-7 : tie.Need-returns-7
+unfolding labelPlace
+returns-7 c =
+    rw (
+      ← (c .before .before .before .before .before .before .before .before .byte-at .ensures .0),
+      ← (c .before .before .before .before .text-at .ensures),
+      ← (c .before .before .before .occurs .ensures),
+      ← (c .before .occurs2 .ensures),
+    )
+    (search picks depth 15)
+
+pub label-spec : {M : Type 1} → statement M
+label-spec =
+    tie.close
+    (tie.spec
+    returns
+    byte-at-requires
+    returns-2
+    returns-3
+    add-if4
+    sub-if4
+    returns-4
+    text-at-requires
+    occurs-requires
+    returns-5
+    occurs-requires-2
+    returns-6
+    add-t9
+    add-t11
+    returns-7)

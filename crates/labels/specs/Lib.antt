@@ -1,0 +1,4 @@
+pub mod Places
+pub mod Judging
+pub mod Turns
+pub mod LabelsRead

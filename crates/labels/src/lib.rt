@@ -1,0 +1,130 @@
+// A section of labels: the bytes of each, whether it has occurred before, and the judging of all.
+use base::Cur;
+use places::byte_at;
+ghost use mathlib.Core.Path.{_≡_};
+ghost use Prim.Native.Nat.{_+_, _≤_, _<_};
+ghost use Rattle.base.specs.Lists.{some};
+ghost use Rattle.base.specs.Standing.{placeAfter};
+ghost use Rattle.meaning.specs.Sections.{sameLabel};
+ghost use Rattle.labels.specs.Places.{textAt, afterLabel, textsAt};
+ghost use Rattle.labels.specs.Judging.{labelPlace, labelsPlace};
+
+// The bytes of the label whose length byte stands at p.
+pub fn text_at(s: &[u8], p: usize) -> &[u8]
+    ensures { λ r. ⌜ now r ≡ textAt (now (s .entry)) p ⌝ }
+{
+    if s.len() <= p {
+        return &s[..0];
+    }
+    let from = p + 1;
+    let long = byte_at(s, p);
+    if s.len() - from < long {
+        return &s[from..];
+    }
+    let to = from + long;
+    return &s[from..to];
+}
+
+// The place after that label.
+fn after_label(s: &[u8], p: usize) -> usize
+    ensures { λ r. ⌜ (r ≡ afterLabel (now (s .entry)) p) × (r ≤ p + 256) ⌝ }
+{
+    if p < s.len() {
+        return p + 1 + byte_at(s, p);
+    }
+    p
+}
+
+// Labels are equal only if every byte is.
+fn same_label(a: &[u8], b: &[u8]) -> bool
+    ensures { λ r. ⌜ r ≡ sameLabel (now (a .entry)) (now (b .entry)) ⌝ }
+{
+    if a.len() != b.len() {
+        return false;
+    }
+    let mut i = 0;
+    while i < a.len() {
+        if a[i] != b[i] {
+            return false;
+        }
+        i += 1;
+    }
+    true
+}
+
+// The text is one of the n labels from the place p on.
+fn occurs(text: &[u8], s: &[u8], p: usize, n: usize) -> bool
+    ensures { λ r. ⌜ r ≡ some (sameLabel (now (text .entry))) (textsAt (now (s .entry)) p n) ⌝ }
+{
+    let mut i = 0;
+    let mut x = p;
+    while i < n {
+        if same_label(text, text_at(s, x)) {
+            return true;
+        }
+        x = after_label(s, x);
+        i += 1;
+    }
+    false
+}
+
+// A label at x, the i-th from the place p on in d, beside the first k labels of the sheet s.
+fn label(s: &[u8], k: usize, d: &[u8], p: usize, i: usize, x: usize) -> Cur
+    ensures { λ r. ⌜ r ≡ labelPlace (now (s .entry)) k (now (d .entry)) p i x ⌝ }
+{
+    if d.len() <= x {
+        return Cur::No(1);
+    }
+    let long = byte_at(d, x);
+    if long < 1 {
+        return Cur::No(3);
+    }
+    if 60 < long {
+        return Cur::No(3);
+    }
+    if d.len() - (x + 1) < long {
+        return Cur::No(1);
+    }
+    let text = text_at(d, x);
+    if occurs(text, s, 1, k) {
+        return Cur::No(4);
+    }
+    if occurs(text, d, p, i) {
+        return Cur::No(4);
+    }
+    Cur::At(x + 1 + long)
+}
+
+// The n labels from the place p on in d, beside the first k labels of the sheet s.
+pub fn labels(s: &[u8], k: usize, d: &[u8], p: usize, n: usize) -> Cur
+    ensures { λ r. ⌜ r ≡ labelsPlace (now (s .entry)) k (now (d .entry)) p n ⌝ }
+{
+    let mut i = 0;
+    let mut x = p;
+    while i < n {
+        match label(s, k, d, p, i, x) {
+            Cur::At(y) => {
+                x = y;
+            }
+            Cur::No(m) => {
+                return Cur::No(m);
+            }
+        }
+        i += 1;
+    }
+    Cur::At(x)
+}
+
+// The place after n labels from the place p on.
+pub fn after_labels(s: &[u8], p: usize, n: usize) -> usize
+    requires { ⌜ (p < 256) × (n < 256) ⌝ }
+    ensures { λ r. ⌜ (r ≡ placeAfter (afterLabel (now (s .entry))) p n) × (r < 65792) ⌝ }
+{
+    let mut i = 0;
+    let mut x = p;
+    while i < n {
+        x = after_label(s, x);
+        i += 1;
+    }
+    x
+}

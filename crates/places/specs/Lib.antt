@@ -1,0 +1,4 @@
+pub mod Bytes
+pub mod Answer
+pub mod NumberRead
+pub mod Turns

@@ -1,0 +1,36 @@
+// What stands at a place in lent bytes: a byte, a number of two bytes, the end.
+use base::Cur;
+ghost use mathlib.Core.Path.{_≡_};
+ghost use Prim.Native.Nat.{_<_};
+ghost use lib.ListN.{getD};
+ghost use Rattle.places.specs.Bytes.{pairAt, endPlace};
+
+// The byte at a place, 0 past the end.
+pub fn byte_at(s: &[u8], i: usize) -> usize
+    ensures { λ r. ⌜ (r ≡ getD (now (s .entry)) i 0) × (r < 256) ⌝ }
+{
+    if i < s.len() {
+        return s[i] as usize;
+    }
+    0
+}
+
+// The number of two bytes at x, the low one first.
+pub fn pair_at(s: &[u8], x: usize) -> usize
+    ensures { λ r. ⌜ (r ≡ pairAt (now (s .entry)) x) × (r < 65536) ⌝ }
+{
+    if s.len() <= x {
+        return 0;
+    }
+    byte_at(s, x) + 256 * byte_at(s, x + 1)
+}
+
+// No byte remains.
+pub fn end(s: &[u8], x: usize) -> Cur
+    ensures { λ r. ⌜ r ≡ endPlace (now (s .entry)) x ⌝ }
+{
+    if x < s.len() {
+        return Cur::No(2);
+    }
+    Cur::At(x)
+}
