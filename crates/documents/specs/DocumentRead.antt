@@ -1,5 +1,5 @@
 -- Documents judged by places are documents as the paper reads them, and their nodes stand where the places say.
-use Prim.Native.Nat.{ℕ, zero, suc, _+_, _*_, _-_}
+use Prim.Native.Nat.{ℕ, zero, suc, _+_, _*_}
 use mathlib.Core.Path.{_≡_, refl, sym, ap, _∙_}
 use mathlib.Core.Bool.{_&&_}
 use mathlib.Core.List.{List, _∷_}

@@ -43,10 +43,10 @@ fit-shifted n members l h =
 unfoldable pub isFit : ℕ → Entry → Bool
 isFit n e = membersFit n (e .members)
 
--- of the entry by value
-pub fit-here : (n : ℕ) (e : shapes.Entry) (f : Entry) (r b : Bool) → entryOf e ≡ f → r ≡ membersFit n (e .members) → r ≡ b → isFit n f ≡ b
+-- by the members of the entry by value
+pub fit-here : (n : ℕ) (e : shapes.Entry) (f : Entry) (members : ℕ) (r b : Bool) → entryOf e ≡ f → members ≡ e .members → r ≡ membersFit n members → r ≡ b → isFit n f ≡ b
 unfolding isFit entryOf
-fit-here n e f r b h k l = rw (← h) (sym k ∙ l)
+fit-here n e f members r b h m k l = rw (← h, ← m) (sym k ∙ l)
 
 -- no entry without members, no member outside
 both-every : (n : ℕ) (es : List Entry) → every (isFit n) es ≡ (every isPeopled es && every (isWithin n) es)

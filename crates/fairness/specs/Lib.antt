@@ -1,3 +1,4 @@
+pub mod Members
 pub mod Weighing
 pub mod Each
 pub mod Judged

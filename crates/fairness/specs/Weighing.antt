@@ -4,13 +4,14 @@ use mathlib.Core.Path.{_≡_, refl, sym, ap, _∙_}
 use mathlib.Core.Bool.{Bool, true, false}
 use mathlib.Core.List.{List, [], _∷_}
 use lib.Dec.{eqb}
+use borrow.Author.Tests.{eq-eqb, ne-eqb}
 use Rattle.base.specs.Choice.{pick}
 use Rattle.base.specs.Lists.{keep}
 use Rattle.base.specs.Along.{foldAlong}
 use Rattle.meaning.specs.Forest.{Forest}
 use Rattle.meaning.specs.Sections.{Entry}
 use Rattle.meaning.specs.Covering.{covers}
-use Rattle.meaning.specs.Fair.{hasMember, entriesOf, oneThatCovers}
+use Rattle.meaning.specs.Fair.{isMember, hasMember, entriesOf, oneThatCovers}
 
 module _ (i : ℕ) (p : Forest) where
   -- 0 while no entry has subscription i as a member, 1 after one that covers its pattern, 2 after any other
@@ -58,3 +59,24 @@ module _ (i : ℕ) (p : Forest) where
           → eqb (foldAlong weighed es (pick b (pick (covers (e .pattern) p) 1 2) 0)) 1 ≡ oneThatCovers p (pick b (e ∷ keep (hasMember i) es) (keep (hasMember i) es))
       go true later = first (covers (e .pattern) p) refl
       go false later = later
+
+-- one entry, by its members
+module _ (i : ℕ) (p : Forest) (e : Entry) (members found : ℕ) (same : members ≡ e .members) (r : Bool) (asked : r ≡ isMember members i) where
+  has : (b : Bool) → r ≡ b → hasMember i e ≡ b
+  unfolding hasMember
+  has b h = rw same at (sym asked ∙ h)
+
+  -- another's is passed over
+  pub weigh-passes : r ≡ false → found ≡ weighed i p e found
+  unfolding weighed pick
+  weigh-passes h = sym (rw (has false h))
+
+  -- a second one spoils it
+  pub weigh-again : r ≡ true → (found ≡ 0 → ⊥) → 2 ≡ weighed i p e found
+  unfolding weighed pick
+  weigh-again h n = sym (rw (has true h, ne-eqb found 0 n))
+
+  -- the first decides by covering
+  pub weigh-first : r ≡ true → found ≡ 0 → (b said : Bool) → said ≡ covers (e .pattern) p → said ≡ b → pick b 1 2 ≡ weighed i p e found
+  unfolding weighed pick
+  weigh-first h n b said c d = sym (rw (has true h, eq-eqb found 0 n, sym c ∙ d))

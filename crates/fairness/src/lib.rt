@@ -4,25 +4,26 @@ use covering::covers;
 use patterns::Subscriptions;
 use patterns::pattern_at;
 use patterns::subscriptions_in;
-use shapes::Entry;
 use shapes::Pattern;
 use tables::Entries;
 use tables::both;
 use tables::entries_in;
 use tables::entry_at;
-ghost use Prim.Native.Nat.{_+_, _^_, _≤_, _<_};
+use tables::members_at;
+ghost use Prim.Native.Nat.{_≤_, _<_};
 ghost use mathlib.Core.Path.{_≡_};
-ghost use lib.Dec.{eqb};
 ghost use Rattle.base.specs.Lists.{every};
 ghost use Rattle.meaning.specs.Fair.{isMember, entriesOf, oneThatCovers, eachInOne};
 ghost use Rattle.meaning.specs.Calls.{tableNumber};
 ghost use Rattle.shapes.specs.Shapes.{patternOf, entryOf, SoundPattern};
 ghost use Rattle.reading.specs.Places.{sheetAt};
 ghost use Rattle.patterns.specs.Subscribed.{SubscriptionsStand};
+ghost use Rattle.tables.specs.Judging.{entryAt};
 ghost use Rattle.tables.specs.Standing.{tableAt, EntriesStand};
+ghost use Rattle.fairness.specs.Members.{MembersStand};
 ghost use Rattle.fairness.specs.Weighing.{weighed};
 ghost use Rattle.fairness.specs.Each.{membersFit, isFit};
-ghost use Rattle.fairness.specs.Judged.{fairAt, fairTablePlace, fairPlace};
+ghost use Rattle.fairness.specs.Judged.{fairAt, fairPlace};
 
 // Is subscription i a member?
 pub fn is_member(members: u64, i: usize) -> bool
@@ -53,8 +54,7 @@ fn all_fit(t: &[u8], entries: Entries, n: usize) -> bool
 {
     let mut j = 0;
     while j < entries.count {
-        let e = entry_at(t, entries.places[j]);
-        if !members_fit(e.members, n) {
+        if !members_fit(members_at(t, entries.places[j]), n) {
             return false;
         }
         j += 1;
@@ -62,18 +62,33 @@ fn all_fit(t: &[u8], entries: Entries, n: usize) -> bool
     true
 }
 
-// Weighs an entry for subscription i, whose pattern is p: 0 while no entry has it, 1 after one that covers it, 2 after any
-// other.
-fn weigh(e: Entry, i: usize, p: Pattern, found: u8) -> u8
-    requires { ⌜ (i < 64) × SoundPattern (e .pattern) × SoundPattern p ⌝ }
-    ensures { λ r. ⌜ r ≡ weighed i (patternOf p) (entryOf e) found ⌝ }
+// The members of every entry: each is asked for every subscription.
+fn members_in(t: &[u8], entries: Entries) -> [u64; 64]
+    requires { ⌜ entries .count ≤ 64 ⌝ }
+    ensures { λ r. ⌜ MembersStand (now (t .entry)) entries r ⌝ }
 {
-    if !is_member(e.members, i) {
+    let mut members = [0; 64];
+    let mut j = 0;
+    while j < entries.count {
+        members[j] = members_at(t, entries.places[j]);
+        j += 1;
+    }
+    members
+}
+
+// Weighs the entry at x for subscription i, whose pattern is p: 0 while no entry has it, 1 after one that covers it, 2 after
+// any other.
+fn weigh(t: &[u8], x: usize, members: u64, i: usize, p: Pattern, found: u8) -> u8
+    requires { ⌜ (members ≡ entryAt (now t) x .members) × SoundPattern (entryAt (now t) x .pattern) × (i < 64) × SoundPattern p ⌝ }
+    ensures { λ r. ⌜ r ≡ weighed i (patternOf p) (entryOf (entryAt (now (t .entry)) x)) found ⌝ }
+{
+    if !is_member(members, i) {
         return found;
     }
     if found != 0 {
         return 2;
     }
+    let e = entry_at(t, x);
     if covers(e.pattern, p) {
         return 1;
     }
@@ -81,29 +96,34 @@ fn weigh(e: Entry, i: usize, p: Pattern, found: u8) -> u8
 }
 
 // Is subscription i, whose pattern is p, in exactly one entry, and does that entry cover it?
-fn stands(t: &[u8], entries: Entries, i: usize, p: Pattern) -> bool
-    requires { ⌜ EntriesStand (now t) entries × (i < 64) × SoundPattern p ⌝ }
+fn stands(t: &[u8], entries: Entries, members: [u64; 64], i: usize, p: Pattern) -> bool
+    requires { ⌜ EntriesStand (now t) entries × MembersStand (now t) entries members × (i < 64) × SoundPattern p ⌝ }
     ensures { λ r. ⌜ r ≡ oneThatCovers (patternOf p) (entriesOf i (tableAt (now (t .entry)))) ⌝ }
 {
     let mut found = 0;
     let mut j = 0;
     while j < entries.count {
-        let e = entry_at(t, entries.places[j]);
-        found = weigh(e, i, p, found);
+        found = weigh(t, entries.places[j], members[j], i, p, found);
         j += 1;
     }
     found == 1
 }
 
 // Is each subscription in exactly one entry, and does that entry cover it?
-fn all_stand(s: &[u8], subscriptions: Subscriptions, t: &[u8], entries: Entries) -> bool
-    requires { ⌜ SubscriptionsStand (now s) subscriptions × EntriesStand (now t) entries ⌝ }
+fn all_stand(
+    s: &[u8],
+    subscriptions: Subscriptions,
+    t: &[u8],
+    entries: Entries,
+    members: [u64; 64],
+) -> bool
+    requires { ⌜ SubscriptionsStand (now s) subscriptions × EntriesStand (now t) entries × MembersStand (now t) entries members ⌝ }
     ensures { λ r. ⌜ r ≡ eachInOne 0 (sheetAt (now (s .entry)) .patterns) (tableAt (now (t .entry))) ⌝ }
 {
     let mut i = 0;
     while i < subscriptions.count {
         let p = pattern_at(s, subscriptions.places[i]);
-        if !stands(t, entries, i, p) {
+        if !stands(t, entries, members, i, p) {
             return false;
         }
         i += 1;
@@ -119,7 +139,8 @@ fn is_fair(s: &[u8], subscriptions: Subscriptions, t: &[u8], entries: Entries) -
     if !all_fit(t, entries, subscriptions.count) {
         return false;
     }
-    all_stand(s, subscriptions, t, entries)
+    let members = members_in(t, entries);
+    all_stand(s, subscriptions, t, entries, members)
 }
 
 // Where a table ends that passes the table check, the sheet judged first, or the first fault; 12 last.

@@ -20,7 +20,7 @@ use tables::Entries;
 use tables::entries_in;
 use tables::entry_at;
 ghost use mathlib.Core.Path.{_≡_};
-ghost use Prim.Native.Nat.{_+_, _*_, _^_, _≤_, _<_};
+ghost use Prim.Native.Nat.{_^_, _<_};
 ghost use Rattle.meaning.specs.Satisfying.{satisfies};
 ghost use Rattle.meaning.specs.Routing.{plainRoute, shedsIn, lowestShed};
 ghost use Rattle.meaning.specs.Calls.{matchesAnswer, plainAnswer, tableAnswer};

@@ -34,7 +34,7 @@ fn enough(t: &[u8], x: usize, n: usize) -> bool
 }
 
 // The members of the entry at x: eight bytes, the low one first.
-fn members_at(t: &[u8], x: usize) -> u64
+pub fn members_at(t: &[u8], x: usize) -> u64
     ensures { λ r. ⌜ r ≡ numberIn (now (t .entry)) x 8 ⌝ }
 {
     if t.len() <= x {

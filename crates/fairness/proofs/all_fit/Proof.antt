@@ -7,7 +7,8 @@ use borrow.Author.Tests.{not-true, not-false}
 use lib.ListN.{drop}
 use Rattle.base.specs.Lists.{every}
 use Rattle.base.specs.Along.{every-goes-on, every-stops, every-ends}
-use Rattle.tables.specs.Standing.{tableAt, noEntry, entry-here}
+use Rattle.tables.specs.Judging.{entryAt}
+use Rattle.tables.specs.Standing.{tableAt, noEntry}
 use Rattle.fairness.specs.Each.{isFit, fit-here}
 use Rattle.fairness.proofs.all_fit.Statement.{statement}
 use Rattle.fairness.proofs.all_fit.Tie as tie
@@ -21,24 +22,25 @@ abbrev μ-loop : tie.MeasureT-loop
 loop-holds : tie.Need-loop-holds Inv-loop μ-loop
 loop-holds c = (omega arith, refl)
 
-mul-entry-at : tie.Need-mul-entry-at Inv-loop μ-loop
-mul-entry-at c = omega (arith, c .before .before .before .pre .0 .few)
+mul-members-at : tie.Need-mul-members-at Inv-loop μ-loop
+mul-members-at c = omega (arith, c .before .before .before .pre .0 .few)
 
-element-copy-out-entry-at : tie.Need-element-copy-out-entry-at Inv-loop μ-loop
-element-copy-out-entry-at c = omega (arith, c .before .before .before .pre .0 .few)
+element-copy-out-members-at : tie.Need-element-copy-out-members-at Inv-loop μ-loop
+element-copy-out-members-at c = omega (arith, c .before .before .before .pre .0 .few)
 
-entry-at-requires : tie.Need-entry-at-requires Inv-loop μ-loop
-entry-at-requires c κs = search needs
+members-at-requires : tie.Need-members-at-requires Inv-loop μ-loop
+members-at-requires c κs = search needs
 
 members-fit-requires : tie.Need-members-fit-requires Inv-loop μ-loop
 members-fit-requires c κs = c .before .before .before .before .before .pre .1
 
 returns : tie.Need-returns Inv-loop μ-loop
+unfolding entryAt
 returns c =
     let l = c .before .before .before .before .before in
     let stand = l .before .before .pre .0 in
-    let here = entry-here _ _ stand (l .loop .j) _ (omega arith) (c .before .before .entry-at .ensures) in
-    every-stops _ _ noEntry (l .loop .j) _ (l .loop .inv .1) (omega (arith, stand .counted)) (fit-here _ _ _ _ _ (here .0) (c .before .members-fit .ensures) (not-true _ (c .if1 .taken)))
+    let here = stand .taken (l .loop .j) noEntry (omega arith) in
+    every-stops _ _ noEntry (l .loop .j) _ (l .loop .inv .1) (omega (arith, stand .counted)) (fit-here _ _ _ _ _ _ (here .0) (c .before .before .members-at .ensures) (c .before .members-fit .ensures) (not-true _ (c .if1 .taken)))
 
 add-j : tie.Need-add-j Inv-loop μ-loop
 add-j c = omega (arith, c .before .before .before .before .before .before .before .pre .0 .few)
@@ -47,12 +49,13 @@ loop-less : tie.Need-loop-less Inv-loop μ-loop
 loop-less c = omega arith
 
 loop-again : tie.Need-loop-again Inv-loop μ-loop
+unfolding entryAt
 loop-again c =
     let l = c .before .before .before .before .before in
     let stand = l .before .before .pre .0 in
-    let here = entry-here _ _ stand (l .loop .j) _ (omega arith) (c .before .before .entry-at .ensures) in (
+    let here = stand .taken (l .loop .j) noEntry (omega arith) in (
       omega arith,
-      every-goes-on _ _ noEntry (l .loop .j) _ (l .loop .inv .1) (omega (arith, stand .counted)) (fit-here _ _ _ _ _ (here .0) (c .before .members-fit .ensures) (not-false _ (c .if1 .left))),
+      every-goes-on _ _ noEntry (l .loop .j) _ (l .loop .inv .1) (omega (arith, stand .counted)) (fit-here _ _ _ _ _ _ (here .0) (c .before .before .members-at .ensures) (c .before .members-fit .ensures) (not-false _ (c .if1 .left))),
     )
 
 returns-2 : tie.Need-returns-2 Inv-loop μ-loop
@@ -65,9 +68,9 @@ all-fit-spec =
     Inv-loop
     μ-loop
     loop-holds
-    mul-entry-at
-    element-copy-out-entry-at
-    entry-at-requires
+    mul-members-at
+    element-copy-out-members-at
+    members-at-requires
     members-fit-requires
     returns
     add-j

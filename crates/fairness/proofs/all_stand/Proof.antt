@@ -14,11 +14,11 @@ use Rattle.fairness.proofs.all_stand.Statement.{statement}
 use Rattle.fairness.proofs.all_stand.Tie as tie
 
 abbrev Inv-loop : tie.InvT-loop
-Inv-loop s t entries subscriptions i₀ i =
+Inv-loop s t entries members subscriptions i₀ i =
     (i ≤ subscriptions .count) × (eachInOne i (drop i (sheetAt s .patterns)) (tableAt t) ≡ eachInOne 0 (sheetAt s .patterns) (tableAt t))
 
 abbrev μ-loop : tie.MeasureT-loop
-μ-loop s t entries subscriptions i₀ i = subscriptions .count - i
+μ-loop s t entries members subscriptions i₀ i = subscriptions .count - i
 
 loop-holds : tie.Need-loop-holds Inv-loop μ-loop
 loop-holds c = (omega arith, refl)
@@ -36,7 +36,7 @@ stands-requires : tie.Need-stands-requires Inv-loop μ-loop
 stands-requires c κs =
     let l = c .before .before .before in
     let pre = l .before .before .before .pre in
-    (pre .1, omega (arith, pre .0 .few), pattern-here _ _ (pre .0) (l .loop .i) _ (omega arith) (c .pattern-at .ensures) .1)
+    (pre .1, pre .2, omega (arith, pre .0 .few), pattern-here _ _ (pre .0) (l .loop .i) _ (omega arith) (c .pattern-at .ensures) .1)
 
 returns : tie.Need-returns Inv-loop μ-loop
 returns c =

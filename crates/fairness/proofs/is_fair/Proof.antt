@@ -12,12 +12,19 @@ all-fit-requires c κs =
 returns : tie.Need-returns
 returns c = not-fit _ _ _ _ (c .before .before .before .before .pre .0 .counted) (c .before .all-fit .ensures) (not-true _ (c .if1 .taken))
 
+members-in-requires : tie.Need-members-in-requires
+members-in-requires c κs = c .before .before .before .before .pre .1 .few
+
 all-stand-requires : tie.Need-all-stand-requires
-all-stand-requires c κs = c .before .before .before .before .pre
+all-stand-requires c κs =
+    let pre = c .before .before .before .before .before .pre in
+    (pre .0, pre .1, c .members-in .ensures)
 
 returns-2 : tie.Need-returns-2
 returns-2 c =
-    all-fit _ _ _ _ _ (c .before .before .before .before .before .pre .0 .counted) (c .before .before .all-fit .ensures) (not-false _ (c .before .if1 .left)) (c .all-stand .ensures)
+    let start = c .before .before .before .before .before .before in
+    all-fit _ _ _ _ _ (start .pre .0 .counted) (c .before .before .before .all-fit .ensures) (not-false _ (c .before .before .if1 .left)) (c .all-stand .ensures)
 
 pub is-fair-spec : {M : Type 1} → statement M
-is-fair-spec = tie.close (tie.spec all-fit-requires returns all-stand-requires returns-2)
+is-fair-spec =
+    tie.close (tie.spec all-fit-requires returns members-in-requires all-stand-requires returns-2)

@@ -2,52 +2,54 @@
 use Prim.Native.Nat.{ℕ, _-_, _≤_}
 use mathlib.Core.Path.{_≡_, refl, ap, _∙_}
 use native.Mathlib.Omega.{arith}
-use borrow.Author.Needs.{needs}
 use lib.Dec.{eqb}
 use lib.ListN.{drop}
 use Rattle.base.specs.Along.{foldAlong, along-goes-on, along-ends}
 use Rattle.shapes.specs.Shapes.{patternOf}
-use Rattle.tables.specs.Standing.{tableAt, noEntry, entry-here}
+use Rattle.tables.specs.Standing.{tableAt, noEntry}
 use Rattle.fairness.specs.Weighing.{weighed, one-weighed}
 use Rattle.fairness.proofs.stands.Statement.{statement}
 use Rattle.fairness.proofs.stands.Tie as tie
 
 abbrev Inv-loop : tie.InvT-loop
-Inv-loop t i p entries found₀ j₀ found j =
+Inv-loop t i p entries members found₀ j₀ found j =
     (j ≤ entries .count) × (foldAlong (weighed i (patternOf p)) (drop j (tableAt t)) found ≡ foldAlong (weighed i (patternOf p)) (tableAt t) 0)
 
 abbrev μ-loop : tie.MeasureT-loop
-μ-loop t i p entries found₀ j₀ found j = entries .count - j
+μ-loop t i p entries members found₀ j₀ found j = entries .count - j
 
 loop-holds : tie.Need-loop-holds Inv-loop μ-loop
 loop-holds c = (omega arith, refl)
 
-mul-entry-at : tie.Need-mul-entry-at Inv-loop μ-loop
-mul-entry-at c = omega (arith, c .before .before .before .pre .0 .few)
+mul-weigh : tie.Need-mul-weigh Inv-loop μ-loop
+mul-weigh c = omega (arith, c .before .before .before .pre .0 .few)
 
-element-copy-out-entry-at : tie.Need-element-copy-out-entry-at Inv-loop μ-loop
-element-copy-out-entry-at c = omega (arith, c .before .before .before .pre .0 .few)
+element-copy-out-weigh : tie.Need-element-copy-out-weigh Inv-loop μ-loop
+element-copy-out-weigh c = omega (arith, c .before .before .before .pre .0 .few)
 
-entry-at-requires : tie.Need-entry-at-requires Inv-loop μ-loop
-entry-at-requires c κs = search needs
+mul-weigh-2 : tie.Need-mul-weigh-2 Inv-loop μ-loop
+mul-weigh-2 c = omega (arith, c .before .before .before .before .pre .0 .few)
+
+array-read-weigh : tie.Need-array-read-weigh Inv-loop μ-loop
+array-read-weigh c = omega (arith, c .before .before .before .before .pre .0 .few)
 
 weigh-requires : tie.Need-weigh-requires Inv-loop μ-loop
 weigh-requires c κs =
-    let l = c .before .before .before in
+    let l = c .before .before in
     let pre = l .before .before .pre in
-    (pre .1, entry-here _ _ (pre .0) (l .loop .j) _ (omega arith) (c .entry-at .ensures) .1, pre .2)
+    (pre .1 .each (l .loop .j) (omega arith), pre .0 .taken (l .loop .j) noEntry (omega arith) .1, pre .2, pre .3)
 
 add-j : tie.Need-add-j Inv-loop μ-loop
-add-j c = omega (arith, c .before .before .before .before .before .before .pre .0 .few)
+add-j c = omega (arith, c .before .before .before .before .before .pre .0 .few)
 
 loop-less : tie.Need-loop-less Inv-loop μ-loop
 loop-less c = omega arith
 
 loop-again : tie.Need-loop-again Inv-loop μ-loop
 loop-again c =
-    let l = c .before .before .before .before in
+    let l = c .before .before .before in
     let stand = l .before .before .pre .0 in
-    let here = entry-here _ _ stand (l .loop .j) _ (omega arith) (c .before .entry-at .ensures) in (
+    let here = stand .taken (l .loop .j) noEntry (omega arith) in (
       omega arith,
       rw (c .weigh .ensures, here .0) (along-goes-on _ _ noEntry (l .loop .j) (l .loop .found) _ (l .loop .inv .1) (omega (arith, stand .counted))),
     )
@@ -65,9 +67,10 @@ stands-spec =
     Inv-loop
     μ-loop
     loop-holds
-    mul-entry-at
-    element-copy-out-entry-at
-    entry-at-requires
+    mul-weigh
+    element-copy-out-weigh
+    mul-weigh-2
+    array-read-weigh
     weigh-requires
     add-j
     loop-less

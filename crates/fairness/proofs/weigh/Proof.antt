@@ -1,12 +1,14 @@
 -- `fairness::weigh` meets its contract: one that has the subscription counts, another is passed over.
-use mathlib.Core.Path.{refl, sym, _∙_}
 use native.Mathlib.Omega.{arith}
 use borrow.Author.Needs.{needs}
-use borrow.Author.Tests.{not-true, not-false, eq-eqb, ne-eqb}
-use Rattle.base.specs.Choice.{pick-true, pick-false}
-use Rattle.meaning.specs.Fair.{hasMember}
-use Rattle.shapes.specs.Shapes.{entryOf}
-use Rattle.fairness.specs.Weighing.{weighed}
+use borrow.Author.Tests.{not-true, not-false}
+use mathlib.Core.Path.{ap, _∙_}
+use mathlib.Core.Bool.{true, false}
+use Rattle.base.specs.Choice.{pick}
+use Rattle.meaning.specs.Covering.{covers}
+use Rattle.shapes.specs.Shapes.{patternOf, entryOf}
+use Rattle.shapes.specs.declared.Entry.{Entry}
+use Rattle.fairness.specs.Weighing.{weigh-passes, weigh-again, weigh-first}
 use Rattle.fairness.proofs.weigh.Statement.{statement}
 use Rattle.fairness.proofs.weigh.Tie as tie
 
@@ -14,30 +16,47 @@ is-member-requires : tie.Need-is-member-requires
 is-member-requires c κs = search needs
 
 returns : tie.Need-returns
-unfolding weighed hasMember entryOf
-returns c = pick-false _ _ _ _ (sym (c .before .is-member .ensures) ∙ not-true _ (c .if1 .taken)) refl
+unfolding entryOf
+returns c =
+    let s = c .before .before .before in
+    weigh-passes _ _ _ _ _ (s .pre .0) _ (c .before .is-member .ensures) (not-true _ (c .if1 .taken))
 
 returns-2 : tie.Need-returns-2
-unfolding weighed hasMember entryOf
+unfolding entryOf
 returns-2 c =
-    let there = sym (c .before .before .is-member .ensures) ∙ not-false _ (c .before .if1 .left) in
-    pick-true _ _ _ _ there (pick-false _ _ _ _ (ne-eqb _ 0 (c .if2 .taken)) refl)
+    let s = c .before .before .before .before in
+    weigh-again _ _ _ _ _ (s .pre .0) _ (c .before .before .is-member .ensures) (not-false _ (c .before .if1 .left)) (c .if2 .taken)
+
+entry-at-requires : tie.Need-entry-at-requires
+entry-at-requires c κs = search needs
 
 covers-requires : tie.Need-covers-requires
-covers-requires c κs = search needs
+covers-requires c κs =
+    let pre = c .before .before .before .before .before .pre in
+    (rw (c .entry-at .ensures) (pre .1), pre .3)
 
 returns-3 : tie.Need-returns-3
-unfolding weighed hasMember entryOf
+unfolding entryOf pick
 returns-3 c =
-    let there = sym (c .before .before .before .before .is-member .ensures) ∙ not-false _ (c .before .before .before .if1 .left) in
-    pick-true _ _ _ _ there (pick-true _ _ _ _ (eq-eqb (c .before .before .before .before .before .args .found) 0 (omega arith)) (pick-true _ _ _ _ (sym (c .before .covers .ensures) ∙ c .if3 .taken) refl))
+    let asked = c .before .before .before .before .before in
+    let s = asked .before .before in
+    weigh-first _ _ _ _ _ (s .pre .0) _ (asked .is-member .ensures) (not-false _ (c .before .before .before .before .if1 .left)) (omega arith) true _ (c .before .covers .ensures ∙ ap (λ (e : Entry). covers (patternOf (e .pattern)) (patternOf (s .args .p))) (c .before .before .entry-at .ensures)) (c .if3 .taken)
 
 returns-4 : tie.Need-returns-4
-unfolding weighed hasMember entryOf
+unfolding entryOf pick
 returns-4 c =
-    let there = sym (c .before .before .before .before .is-member .ensures) ∙ not-false _ (c .before .before .before .if1 .left) in
-    pick-true _ _ _ _ there (pick-true _ _ _ _ (eq-eqb (c .before .before .before .before .before .args .found) 0 (omega arith)) (pick-false _ _ _ _ (sym (c .before .covers .ensures) ∙ c .if3 .left) refl))
+    let asked = c .before .before .before .before .before in
+    let s = asked .before .before in
+    weigh-first _ _ _ _ _ (s .pre .0) _ (asked .is-member .ensures) (not-false _ (c .before .before .before .before .if1 .left)) (omega arith) false _ (c .before .covers .ensures ∙ ap (λ (e : Entry). covers (patternOf (e .pattern)) (patternOf (s .args .p))) (c .before .before .entry-at .ensures)) (c .if3 .left)
 
 pub weigh-spec : {M : Type 1} → statement M
 weigh-spec =
-    tie.close (tie.spec is-member-requires returns returns-2 covers-requires returns-3 returns-4)
+    tie.close
+    (tie.spec
+    is-member-requires
+    returns
+    returns-2
+    entry-at-requires
+    covers-requires
+    returns-3
+    returns-4)
