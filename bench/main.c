@@ -1,6 +1,7 @@
-// The benchmark: the examples, then the same answers from both sides on every input, then the times of both.
+// The benchmark: the examples, then the same answers from both sides on every input, then the times of both and the stack they take.
 #include "examples.h"
 #include "report.h"
+#include "stack.h"
 
 static void check_examples(void)
 {
@@ -68,5 +69,6 @@ int main(void)
     for (unsigned i = 0; i < section_count; i++)
         report_section(&sections[i]);
     report_rares();
+    report_stack();
     return 0;
 }

@@ -16,6 +16,9 @@
  * Bytes are passed as a pointer and how many there are. The pointer is never null, also where there are none, and the
  * bytes stay as they are during the call. They are only read, and nothing is kept after the call, so calls may be made
  * from several threads at once.
+ *
+ * Nothing is allocated. A call takes stack: hub_sheet_check under 1 KB, hub_plain_route under 20 KB, hub_table_route under
+ * 40 KB. These are measured on the deepest inputs, not proved; `bench/run` prints them.
  */
 #ifndef HUB_H
 #define HUB_H
