@@ -2,10 +2,10 @@
 use Prim.Native.Nat.{_-_, _≤_}
 use mathlib.Core.Path.{_≡_, refl}
 use native.Mathlib.Omega.{arith}
-use Rattle.building.specs.Held.{blank}
-use Rattle.building.specs.Removing.{Moved, moved-starts, moved-goes-on, table-removed, sound-removed}
-use Rattle.building.proofs.entries.remove.Statement.{statement}
-use Rattle.building.proofs.entries.remove.Tie as tie
+use Rattle.settling.specs.Held.{blank}
+use Rattle.settling.specs.Removing.{Moved, moved-starts, moved-goes-on, table-removed, sound-removed}
+use Rattle.settling.proofs.entries.remove.Statement.{statement}
+use Rattle.settling.proofs.entries.remove.Tie as tie
 
 abbrev Inv-loop : tie.InvT-loop
 Inv-loop j last u₀ k₀ u k = Moved (u₀ .entries) j k (u .entries) × (u .count ≡ u₀ .count) × (k ≤ last)

@@ -10,7 +10,7 @@ use Rattle.base.specs.Mapping.{total-take-suc}
 use Rattle.meaning.specs.Building.{noEntry, entryAt, entrySteps, stepsTogether}
 use Rattle.shapes.specs.Shapes.{tableOf, SoundTable}
 use Rattle.shapes.specs.declared.Table.{Table}
-use Rattle.building.specs.Held.{blank, length-table, sound-at, steps-at}
+use Rattle.settling.specs.Held.{blank, length-table, sound-at, steps-at}
 
 -- n steps in the first i entries
 pub record Summed (t : Table) (i n : ℕ) : Type 0 where

@@ -19,7 +19,7 @@ use Rattle.meaning.specs.Covering.{covers}
 use Rattle.meaning.specs.Building.{Pair, pair, noEntry, entryAt, joinAt, coversOther, covering, settleAt, settleTimes, settle}
 use Rattle.laws.specs.Unions.{Apart, length-join}
 use Rattle.laws.specs.Settling.{settled-stays}
-use Rattle.building.specs.Pairs.{no-pair, first-pair}
+use Rattle.settling.specs.Pairs.{no-pair, first-pair}
 
 -- i is not j, and entry i covers entry j
 unfoldable pub coversAt : List Entry → ℕ → ℕ → Bool

@@ -2,11 +2,11 @@
 use Prim.Native.Nat.{_*_, _-_}
 use native.Mathlib.Omega.{arith}
 use Rattle.shapes.specs.Shapes.{tableOf, SoundTable}
-use Rattle.building.specs.Held.{blank, length-table, sound-at}
-use Rattle.building.specs.Settled.{Searched, search-starts, search-ends}
-use Rattle.building.specs.Turns.{row-passed, one-less, goes-on-same, goes-on-higher}
-use Rattle.building.proofs.settling.settle.Statement.{statement}
-use Rattle.building.proofs.settling.settle.Tie as tie
+use Rattle.settling.specs.Held.{blank, length-table, sound-at}
+use Rattle.settling.specs.Settled.{Searched, search-starts, search-ends}
+use Rattle.settling.specs.Turns.{row-passed, one-less, goes-on-same, goes-on-higher}
+use Rattle.settling.proofs.settle.Statement.{statement}
+use Rattle.settling.proofs.settle.Tie as tie
 
 abbrev Inv-loop : tie.InvT-loop
 Inv-loop u₀ i₀ from₀ u i from = Searched (tableOf u₀) (tableOf u) i from × SoundTable u

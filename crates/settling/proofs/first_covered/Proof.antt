@@ -8,11 +8,11 @@ use borrow.Author.Needs.{needs}
 use Rattle.base.specs.Loops.{scan}
 use Rattle.base.specs.Scanning.{scan-stops, scan-goes-on, scan-ends}
 use Rattle.shapes.specs.Shapes.{tableOf}
-use Rattle.building.specs.Held.{blank, sound-at}
-use Rattle.building.specs.Settled.{coversAt}
-use Rattle.building.specs.Turns.{covers-itself, covers-other}
-use Rattle.building.proofs.settling.first_covered.Statement.{statement}
-use Rattle.building.proofs.settling.first_covered.Tie as tie
+use Rattle.settling.specs.Held.{blank, sound-at}
+use Rattle.settling.specs.Settled.{coversAt}
+use Rattle.settling.specs.Turns.{covers-itself, covers-other}
+use Rattle.settling.proofs.first_covered.Statement.{statement}
+use Rattle.settling.proofs.first_covered.Tie as tie
 
 abbrev Inv-loop : tie.InvT-loop
 Inv-loop i j t p k₀ k = (k ≤ t .count) × (scan (coversAt (tableOf t) i) (t .count - k) k ≡ scan (coversAt (tableOf t) i) (t .count - j) j)

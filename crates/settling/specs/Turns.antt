@@ -13,8 +13,8 @@ use Rattle.meaning.specs.Sections
 use Rattle.meaning.specs.Building.{pair, joinAt, coversOther}
 use Rattle.shapes.specs.Shapes.{patternOf, entryOf, tableOf, SoundTable}
 use Rattle.shapes.specs.declared.Table.{Table}
-use Rattle.building.specs.Held.{blank, length-table, entry-at}
-use Rattle.building.specs.Settled.{coversAt, taken, Searched, search-next, search-same, search-higher, shorter}
+use Rattle.settling.specs.Held.{blank, length-table, entry-at}
+use Rattle.settling.specs.Settled.{coversAt, taken, Searched, search-next, search-same, search-higher, shorter}
 
 -- an entry itself is passed over
 pub covers-itself : (t : Table) (i k : ℕ) → k ≡ i → coversAt (tableOf t) i k ≡ false

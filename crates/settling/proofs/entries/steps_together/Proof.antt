@@ -1,10 +1,10 @@
 -- `steps_together` meets its contract: the steps of the entries passed are added up.
 use Prim.Native.Nat.{_-_}
 use native.Mathlib.Omega.{arith}
-use Rattle.building.specs.Held.{blank, sound-at}
-use Rattle.building.specs.Summing.{Summed, sum-starts, sum-goes-on, sum-ends}
-use Rattle.building.proofs.entries.steps_together.Statement.{statement}
-use Rattle.building.proofs.entries.steps_together.Tie as tie
+use Rattle.settling.specs.Held.{blank, sound-at}
+use Rattle.settling.specs.Summing.{Summed, sum-starts, sum-goes-on, sum-ends}
+use Rattle.settling.proofs.entries.steps_together.Statement.{statement}
+use Rattle.settling.proofs.entries.steps_together.Tie as tie
 
 abbrev Inv-loop : tie.InvT-loop
 Inv-loop t n₀ i₀ n i = Summed t i n

@@ -1,10 +1,10 @@
 -- `join_at` meets its contract: both sets of members stand at i, and j is removed.
 use mathlib.Core.Path.{_∙_}
-use Rattle.building.specs.Held.{put-sound}
-use Rattle.building.specs.Joining.{both-joined}
+use Rattle.settling.specs.Held.{put-sound}
+use Rattle.settling.specs.Joining.{both-joined}
 use borrow.Author.Needs.{needs}
-use Rattle.building.proofs.entries.join_at.Statement.{statement}
-use Rattle.building.proofs.entries.join_at.Tie as tie
+use Rattle.settling.proofs.entries.join_at.Statement.{statement}
+use Rattle.settling.proofs.entries.join_at.Tie as tie
 
 mul-a : tie.Need-mul-a
 mul-a c = search needs

@@ -1,4 +1,6 @@
 // Settling: where entry i covers entry j, j's members go to i and j is removed, until there is no such pair.
+pub mod entries; // entries.rt: joining two entries, the steps together
+
 use crate::entries::join_at;
 use covering::covers;
 use shapes::Table;
@@ -7,7 +9,7 @@ ghost use Prim.Native.Nat.{_-_, _<_, _≤_};
 ghost use Rattle.base.specs.Loops.{scan};
 ghost use Rattle.meaning.specs.Building.{settle};
 ghost use Rattle.shapes.specs.Shapes.{tableOf, SoundTable};
-ghost use Rattle.building.specs.Settled.{coversAt};
+ghost use Rattle.settling.specs.Settled.{coversAt};
 
 // The first entry from j on that entry i covers, itself aside, or the count where there is none.
 fn first_covered(t: Table, i: usize, j: usize) -> usize

@@ -9,7 +9,7 @@ use Rattle.shapes.specs.Shapes.{patternOf, entryOf, tableOf, SoundTable}
 use Rattle.shapes.specs.declared.Pattern.{Pattern}
 use Rattle.shapes.specs.declared.Entry.{Entry}
 use Rattle.shapes.specs.declared.Table.{Table}
-use Rattle.building.specs.Held.{blank, entry-at, put, put-table}
+use Rattle.settling.specs.Held.{blank, entry-at, put, put-table}
 
 -- the pattern with the members of entries i and j
 abbrev pub both : Table → Pattern → ℕ → ℕ → Entry
