@@ -11,7 +11,7 @@ use Rattle.laws.specs.Chosen.{Right, bestPair-right}
 use Rattle.shapes.specs.Shapes.{patternOf, entryOf, tableOf, SoundTable}
 use Rattle.shapes.specs.declared.Table.{Table}
 use Rattle.building.specs.declared.rounds.Best.{Best}
-use Rattle.building.specs.Held.{blank, length-table, entry-at}
+use Rattle.settling.specs.Held.{blank, length-table, entry-at}
 use Rattle.building.specs.Finding.{bestIs, found-some, found-none}
 
 -- where no pair was found the definition cuts

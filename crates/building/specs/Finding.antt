@@ -15,7 +15,7 @@ use Rattle.meaning.specs.Building
 use Rattle.shapes.specs.Shapes.{patternOf, entryOf, tableOf, SoundTable}
 use Rattle.shapes.specs.declared.Table.{Table}
 use Rattle.building.specs.declared.rounds.Best.{Best}
-use Rattle.building.specs.Held.{blank, entry-at}
+use Rattle.settling.specs.Held.{blank, entry-at}
 use Rattle.building.specs.Saving.{savedBy}
 
 -- the pair found, or nothing where it saves nothing

@@ -15,7 +15,7 @@ use Rattle.shapes.specs.Shapes.{patternOf, SoundPattern, entryOf, entriesIn, ta
 use Rattle.shapes.specs.declared.Pattern.{Pattern}
 use Rattle.shapes.specs.declared.Entry.{Entry}
 use Rattle.shapes.specs.declared.Table.{Table}
-use Rattle.building.specs.Held.{blank, length-table, entry-at, steps-at, put, put-table, put-sound}
+use Rattle.settling.specs.Held.{blank, length-table, entry-at, steps-at, put, put-table, put-sound}
 
 -- the entry found is i, and those from j on are still to be asked
 pub record Largest (t : Table) (i j : ℕ) : Type 0 where

@@ -1,7 +1,3 @@
-pub mod Held
-pub mod Summing
-pub mod Removing
-pub mod Joining
 pub mod Shortened
 pub mod Largest
 pub mod Saving
@@ -9,6 +5,3 @@ pub mod Finding
 pub mod Rows
 pub mod Changing
 pub mod Counting
-pub mod Pairs
-pub mod Settled
-pub mod Turns

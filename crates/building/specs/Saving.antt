@@ -5,7 +5,7 @@ use Rattle.meaning.specs.Forest.{Forest, size}
 use Rattle.meaning.specs.Merging.{merge}
 use Rattle.shapes.specs.Shapes.{patternOf, SoundPattern}
 use Rattle.shapes.specs.declared.Pattern.{Pattern}
-use Rattle.building.specs.Held.{size-pattern}
+use Rattle.settling.specs.Held.{size-pattern}
 
 -- the steps saved
 unfoldable pub savedBy : Forest → Forest → ℕ

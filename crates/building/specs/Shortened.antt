@@ -10,7 +10,7 @@ use Rattle.laws.specs.Bridge.{forest-stepsOf}
 use Rattle.laws.specs.Cutting.{size-cut, stepsOf-cut}
 use Rattle.shapes.specs.Shapes.{stepsIn, patternOf, SoundPattern}
 use Rattle.shapes.specs.declared.Pattern.{Pattern}
-use Rattle.building.specs.Held.{size-pattern}
+use Rattle.settling.specs.Held.{size-pattern}
 
 -- its steps but the last
 abbrev pub shorter : Pattern → Pattern

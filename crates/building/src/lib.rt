@@ -1,11 +1,9 @@
 // Building a table for a limit: settling, rounds, and how many rounds there were, with the entries by value.
-pub mod entries; // entries.rt: joining two entries, the steps together
-pub mod settling; // settling.rt: no entry covers another
 pub mod rounds; // rounds.rt: the pair that saves most, the cut, a round
 
-use crate::entries::steps_together;
 use crate::rounds::round;
-use crate::settling::settle;
+use settling::entries::steps_together;
+use settling::settle;
 use shapes::Table;
 ghost use mathlib.Core.Path.{_≡_};
 ghost use Prim.Native.Nat.{_+_, _≤_, _<_};

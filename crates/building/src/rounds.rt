@@ -1,7 +1,7 @@
 // A round: the pair whose merge saves most is merged, or the entry with most steps loses its last one; then settling.
-use crate::entries::join_at;
-use crate::settling::settle;
 use merging::merge;
+use settling::entries::join_at;
+use settling::settle;
 use shapes::Pattern;
 use shapes::Table;
 ghost use mathlib.Core.Path.{_≡_};

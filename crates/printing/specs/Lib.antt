@@ -1,8 +1,4 @@
-pub mod Output
-pub mod Decimals
-pub mod Texts
 pub mod Members
-pub mod Branches
 pub mod Tables
 pub mod ShortLabels
 pub mod Room

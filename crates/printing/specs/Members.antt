@@ -13,7 +13,7 @@ use Rattle.base.specs.Lists.{keep, numbersFrom}
 use Rattle.meaning.specs.Fair.{isMember}
 use Rattle.meaning.specs.Routing.{membersOf}
 use Rattle.meaning.specs.Printing.{ascii, decimal, commaText}
-use Rattle.printing.specs.Texts.{byteIf}
+use Rattle.texts.specs.Wanted.{byteIf}
 
 -- numbers in decimal: a comma before each, the first only where one has been put already
 unfoldable pub numbersText : Bool → List ℕ → List ℕ

@@ -15,8 +15,8 @@ use Rattle.shapes.specs.Shapes.{entryOf, entriesIn, tableOf, SoundPattern, Soun
 use Rattle.shapes.specs.declared.Entry.{Entry}
 use Rattle.shapes.specs.declared.Table.{Table}
 use Rattle.reading.specs.Places.{forestAt, afterPattern, forestsAt, patternCountAt, sheetAt}
-use Rattle.printing.specs.Output.{written, put, put-whole}
-use Rattle.printing.specs.Texts.{labelsIn}
+use Rattle.texts.specs.Output.{written, put, put-whole}
+use Rattle.pattern_text.specs.StepTexts.{labelsIn}
 use Rattle.printing.specs.Tables.{builtTable, textOf, text-of, size-counted, entries-counted}
 use Rattle.printing.specs.ShortLabels.{Short}
 use Rattle.printing.specs.Room.{Small, table-room, refused-room}

@@ -20,8 +20,8 @@ use Rattle.meaning.specs.Fair.{isMember}
 use Rattle.meaning.specs.Routing.{membersOf}
 use Rattle.meaning.specs.LabelBytes.{labelAt}
 use Rattle.meaning.specs.Printing.{ascii, decimal, axisText, labelText, several, inBrackets, branchesText, patternText, commaText, totalsText, entryText, tableText, refusedText}
-use Rattle.printing.specs.Decimals.{digits}
-use Rattle.printing.specs.Texts.{byteIf}
+use Rattle.texts.specs.Decimals.{digits}
+use Rattle.texts.specs.Wanted.{byteIf}
 use Rattle.printing.specs.Members.{numbersText, numbers-text}
 use Rattle.printing.specs.ShortLabels.{Short}
 

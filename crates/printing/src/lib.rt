@@ -1,70 +1,98 @@
-// A table as the text that is printed: put into a lent output from a place on, while there is room.
-pub mod patterns; // patterns.rt: a pattern
-pub mod tables; // tables.rt: a table
-
+// A table's text: first the totals, then a line for each entry: members ascending, pattern, labels as their bytes.
+use pattern_text::put_pattern;
+use shapes::Entry;
+use shapes::Table;
+use texts::put_bytes;
+use texts::put_counted;
+use texts::put_decimal;
+use texts::put_if;
 ghost use mathlib.Core.Path.{_≡_};
-ghost use mathlib.Core.List.{_++_};
-ghost use Rattle.meaning.specs.Printing.{decimal, refusedText};
-ghost use Rattle.printing.specs.Output.{written, putByte, put};
-ghost use Rattle.printing.specs.Texts.{byteIf};
+ghost use Rattle.meaning.specs.Building.{stepsTogether};
+ghost use Rattle.meaning.specs.Routing.{membersOf};
+ghost use Rattle.meaning.specs.Printing.{commaText, entryText};
+ghost use Rattle.shapes.specs.Shapes.{entryOf, tableOf, SoundPattern, SoundTable};
+ghost use Rattle.texts.specs.Output.{written, put};
+ghost use Rattle.pattern_text.specs.StepTexts.{labelsIn};
+ghost use Rattle.printing.specs.Tables.{totalsOf, builtTable, textOf};
 
-// A byte, if there is room for it; the next place.
-pub fn put_byte(out: &mut [u8], at: usize, b: u8) -> usize
-    ensures { λ r. ⌜ written (now (out .exit)) r ≡ putByte (written (now (out .entry)) at) b ⌝ }
-{
-    if at < out.len() {
-        out[at] = b;
-        return at + 1;
-    }
-    at
-}
-
-// A text; the next place.
-pub fn put_bytes(out: &mut [u8], at: usize, text: &[u8]) -> usize
-    ensures { λ r. ⌜ written (now (out .exit)) r ≡ put (written (now (out .entry)) at) (now (text .entry)) ⌝ }
+// The members of an entry, of n subscriptions, ascending, with a comma between them; the next place.
+pub fn put_members(out: &mut [u8], at: usize, members: u64, n: usize) -> usize
+    ensures { λ r. ⌜ written (now (out .exit)) r ≡ put (written (now (out .entry)) at) (commaText (membersOf n members)) ⌝ }
 {
     let mut next = at;
+    let mut started = false;
+    let mut left = members;
     let mut i = 0;
-    while i < text.len() {
-        next = put_byte(out, next, text[i]);
+    while i < n {
+        let k = i;
+        let bit = left % 2;
         i += 1;
+        left = left / 2;
+        if bit == 1 {
+            next = put_if(out, next, started, 44);
+            next = put_decimal(out, next, k);
+            started = true;
+        }
     }
     next
 }
 
-// A byte, if it is wanted; the next place.
-fn put_if(out: &mut [u8], at: usize, wanted: bool, b: u8) -> usize
-    ensures { λ r. ⌜ written (now (out .exit)) r ≡ put (written (now (out .entry)) at) (byteIf wanted b) ⌝ }
+// The totals; the next place.
+fn put_totals(
+    out: &mut [u8],
+    at: usize,
+    subscriptions: usize,
+    entries: usize,
+    steps: usize,
+    rounds: usize,
+) -> usize
+    ensures { λ r. ⌜ written (now (out .exit)) r ≡ put (written (now (out .entry)) at) (totalsOf subscriptions entries steps rounds) ⌝ }
 {
-    if wanted {
-        return put_byte(out, at, b);
+    let mut next = put_counted(out, at, subscriptions, b" subscriptions, ");
+    next = put_counted(out, next, entries, b" entries, ");
+    next = put_counted(out, next, steps, b" steps, ");
+    put_counted(out, next, rounds, b" rounds\n")
+}
+
+// A line for an entry, beside a sheet s of so many subscriptions; the next place.
+pub fn put_entry(out: &mut [u8], at: usize, s: &[u8], e: Entry, subscriptions: usize) -> usize
+    requires { ⌜ SoundPattern (e .pattern) ⌝ }
+    ensures { λ r. ⌜ written (now (out .exit)) r ≡ put (written (now (out .entry)) at) (entryText (labelsIn (now (s .entry))) subscriptions (entryOf e)) ⌝ }
+{
+    let mut next = put_members(out, at, e.members, subscriptions);
+    next = put_bytes(out, next, b": ");
+    next = put_pattern(out, next, s, e.pattern);
+    put_bytes(out, next, b"\n")
+}
+
+// The steps together.
+fn table_steps(t: Table) -> usize
+    requires { ⌜ SoundTable t ⌝ }
+    ensures { λ r. ⌜ r ≡ stepsTogether (tableOf t) ⌝ }
+{
+    let mut n: usize = 0;
+    let mut i = 0;
+    while i < t.count {
+        let e = t.entries[i];
+        let p = e.pattern;
+        n += p.count;
+        i += 1;
     }
-    at
+    n
 }
 
-// A number in decimal; the next place.
-pub fn put_decimal(out: &mut [u8], at: usize, n: usize) -> usize
-    ensures { λ r. ⌜ written (now (out .exit)) r ≡ put (written (now (out .entry)) at) (decimal n) ⌝ }
+// A table: the totals, and a line for each entry; the next place.
+pub fn put_table(out: &mut [u8], s: &[u8], t: Table, subscriptions: usize, rounds: usize) -> usize
+    requires { ⌜ SoundTable t ⌝ }
+    ensures { λ r. ⌜ written (now (out .exit)) r ≡ put (written (now (out .entry)) 0) (textOf (labelsIn (now (s .entry))) subscriptions (builtTable t rounds)) ⌝ }
 {
-    if n < 10 {
-        return put_byte(out, at, 48 + n as u8);
+    let steps = table_steps(t);
+    let mut next = put_totals(out, 0, subscriptions, t.count, steps, rounds);
+    let mut i = 0;
+    while i < t.count {
+        let e = t.entries[i];
+        i += 1;
+        next = put_entry(out, next, s, e, subscriptions);
     }
-    let next = put_decimal(out, at, n / 10);
-    put_byte(out, next, 48 + (n % 10) as u8)
-}
-
-// A number in decimal, and a text; the next place.
-fn put_counted(out: &mut [u8], at: usize, n: usize, text: &[u8]) -> usize
-    ensures { λ r. ⌜ written (now (out .exit)) r ≡ put (written (now (out .entry)) at) (decimal n ++ now (text .entry)) ⌝ }
-{
-    let next = put_decimal(out, at, n);
-    put_bytes(out, next, text)
-}
-
-// A refusal: its number; the next place.
-pub fn put_refused(out: &mut [u8], n: usize) -> usize
-    ensures { λ r. ⌜ written (now (out .exit)) r ≡ put (written (now (out .entry)) 0) (refusedText n) ⌝ }
-{
-    let next = put_bytes(out, 0, b"refused ");
-    put_counted(out, next, n, b"\n")
+    next
 }

@@ -4,15 +4,15 @@ use base::Cur;
 use building::build;
 use patterns::subscriptions_in;
 use places::pair_at;
-use printing::put_refused;
-use printing::tables::put_table;
+use printing::put_table;
 use reading::sheet;
+use texts::put_refused;
 ghost use mathlib.Core.Path.{_≡_};
 ghost use Rattle.meaning.specs.Building.{build};
 ghost use Rattle.meaning.specs.Printing.{tableText, printed};
 ghost use Rattle.reading.specs.Places.{sheetAt};
 ghost use Rattle.reading.specs.Judged.{SheetStands};
-ghost use Rattle.printing.specs.Output.{written, put};
+ghost use Rattle.texts.specs.Output.{written, put};
 
 // The table that is built for a limit from a sheet that was judged, as text.
 fn put_built(s: &[u8], limit: u16, out: &mut [u8]) -> usize

@@ -1,6 +1,6 @@
 use mathlib.Core.Path.{_∙_, ap}
 use Rattle.patterns.specs.Subscribed.{subscriptions-stand}
-use Rattle.printing.specs.Output.{put}
+use Rattle.texts.specs.Output.{put}
 use Rattle.table_text.specs.Whole.{text-built}
 use borrow.Author.Needs.{needs}
 use Rattle.table_text.proofs.put_built.Statement.{statement}
@@ -10,7 +10,7 @@ use Rattle.table_text.proofs.put_built.Lts as lts
 use Rattle.building.proofs.build.Reads as build-reads
 use Rattle.answers.proofs.built.first_entries.Reads as first-entries-reads
 use Rattle.patterns.proofs.subscriptions_in.Reads as subscriptions-in-reads
-use Rattle.printing.proofs.tables.put_table.Reads as put-table-reads
+use Rattle.printing.proofs.put_table.Reads as put-table-reads
 
 -- src/lib.rt:22:9
 subscriptions-in-requires : tie.Need-subscriptions-in-requires

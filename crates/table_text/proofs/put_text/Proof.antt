@@ -5,7 +5,7 @@ use Rattle.table_text.proofs.put_text.Statement.{statement}
 use Rattle.table_text.proofs.put_text.Tie as tie
 use Rattle.table_text.proofs.put_text.Reads as reads
 use Rattle.table_text.proofs.put_text.Lts as lts
-use Rattle.printing.proofs.put_refused.Reads as put-refused-reads
+use Rattle.texts.proofs.put_refused.Reads as put-refused-reads
 use Rattle.places.proofs.pair_at.Reads as pair-at-reads
 use Rattle.reading.proofs.sheet.Reads as sheet-reads
 use Rattle.table_text.proofs.put_built.Reads as put-built-reads

@@ -2,7 +2,7 @@
 use Prim.Native.Nat.{_-_, _<_}
 use mathlib.Core.Logic.{⊎-elim}
 use native.Mathlib.Omega.{arith}
-use Rattle.building.specs.Held.{blank, sound-at}
+use Rattle.settling.specs.Held.{blank, sound-at}
 use Rattle.building.specs.Finding.{InRow, row-starts, row-better, row-no-better, row-ends}
 use Rattle.building.proofs.rounds.best_in_row.Statement.{statement}
 use Rattle.building.proofs.rounds.best_in_row.Tie as tie

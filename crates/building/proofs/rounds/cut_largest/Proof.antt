@@ -1,6 +1,6 @@
 -- `cut_largest` meets its contract: the cut is put where the entry with most steps stands.
 use native.Mathlib.Omega.{arith}
-use Rattle.building.specs.Held.{blank, sound-at}
+use Rattle.settling.specs.Held.{blank, sound-at}
 use Rattle.building.specs.Largest.{cut-empty, cut-there, cut-sound}
 use borrow.Author.Needs.{needs}
 use Rattle.building.proofs.rounds.cut_largest.Statement.{statement}

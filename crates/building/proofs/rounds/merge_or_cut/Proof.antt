@@ -1,7 +1,7 @@
 -- `merge_or_cut` meets its contract: the pair found is the definition's, and so is the merge, or the cut.
 use mathlib.Core.Path.{_∙_}
 use native.Mathlib.Omega.{arith}
-use Rattle.building.specs.Held.{blank, sound-at}
+use Rattle.settling.specs.Held.{blank, sound-at}
 use Rattle.building.specs.Changing.{change-cut, found-there, change-merge}
 use borrow.Author.Needs.{needs}
 use Rattle.building.proofs.rounds.merge_or_cut.Statement.{statement}

@@ -1,0 +1,77 @@
+-- `printing::put_members` meets its contract. The loop: the members still to come, put from here, give what all give; what is left of the set are their bits.
+use Prim.Native.Nat.{_-_, _/_, _^_}
+use mathlib.Core.Path.{_≡_, refl}
+use mathlib.Core.Bool.{false}
+use native.Mathlib.Omega.{arith}
+use borrow.Author.Needs.{needs}
+use Rattle.texts.specs.Output.{Left, left-first, left-goes-on, left-stays, left-none, left-same, put-is}
+use Rattle.printing.specs.Members.{numbersText, membersFrom, members-text, bits-first, bits-next, member-here, member-not, members-end}
+use Rattle.printing.proofs.put_members.Statement.{statement}
+use Rattle.printing.proofs.put_members.Tie as tie
+
+abbrev Inv-loop : tie.InvT-loop
+Inv-loop out₀ at members n next₀ started₀ left₀ i₀ out next started left i = (left ≡ members / 2 ^ i) × Left out₀ at (numbersText false (membersFrom members 0 (n - 0))) out next (numbersText started (membersFrom members i (n - i)))
+
+abbrev μ-loop : tie.MeasureT-loop
+μ-loop out₀ at members n next₀ started₀ left₀ i₀ out next started left i = n - i
+
+loop-holds : tie.Need-loop-holds Inv-loop μ-loop
+loop-holds c = (bits-first _, left-first _ _ _)
+
+add-i : tie.Need-add-i Inv-loop μ-loop
+add-i c = search needs
+
+put-if-requires : tie.Need-put-if-requires Inv-loop μ-loop
+put-if-requires c κs = search needs
+
+put-decimal-requires : tie.Need-put-decimal-requires Inv-loop μ-loop
+put-decimal-requires c κs = search needs
+
+loop-less : tie.Need-loop-less Inv-loop μ-loop
+loop-less c = search needs
+
+loop-again : tie.Need-loop-again Inv-loop μ-loop
+loop-again c = let d = c .before .before in
+    let f = d .before .before .before .before in
+    let l = f .before .before .before .before in
+    let s = l .before .before .args in (
+      bits-next (s .members) (l .loop .i) (l .loop .left) (l .loop .inv .0),
+      left-goes-on
+          (left-goes-on (l .loop .inv .1) _ _
+          (member-here (s .members) (s .n) (l .loop .i) (l .loop .left) (l .loop .inv .0) (omega arith) (l .loop .started) (f .before .before .if1 .taken)) _ _
+          (f .put-if .ensures))
+          _ _ refl _ _ (d .put-decimal .ensures),
+    )
+
+loop-less-2 : tie.Need-loop-less-2 Inv-loop μ-loop
+loop-less-2 c = search needs
+
+loop-again-2 : tie.Need-loop-again-2 Inv-loop μ-loop
+loop-again-2 c = let l = c .before .before in
+    let s = l .before .before .args in (
+      bits-next (s .members) (l .loop .i) (l .loop .left) (l .loop .inv .0),
+      left-stays (l .loop .inv .1) _ (member-not (s .members) (s .n) (l .loop .i) (l .loop .left) (l .loop .inv .0) (omega arith) (l .loop .started) (c .if1 .left)),
+    )
+
+same-length : tie.Need-same-length Inv-loop μ-loop
+same-length c = left-same (c .before .loop .inv .1)
+
+returns : tie.Need-returns Inv-loop μ-loop
+returns c = put-is _ _ _ _ (members-text _ _) (left-none (c .before .loop .inv .1) (members-end _ _ _ _ (omega arith)))
+
+pub put-members-spec : {M : Type 1} → statement M
+put-members-spec =
+    tie.close
+    (tie.spec
+    Inv-loop
+    μ-loop
+    loop-holds
+    add-i
+    put-if-requires
+    put-decimal-requires
+    loop-less
+    loop-again
+    loop-less-2
+    loop-again-2
+    same-length
+    returns)

@@ -1,0 +1,77 @@
+-- `printing::put_table` meets its contract. The totals; then the loop: what is left of the entries, put from here, gives what all of them give.
+use Prim.Native.Nat.{_-_}
+use mathlib.Core.Path.{_∙_}
+use native.Mathlib.Omega.{arith}
+use Rattle.texts.specs.Output.{Left, left-first, left-goes-on, left-none, left-same, put-then, put-is, same-room}
+use Rattle.pattern_text.specs.StepTexts.{labelsIn}
+use Rattle.printing.specs.Tables.{entriesText, entry-sound, entry-here, entries-end, table-text}
+use Rattle.printing.proofs.put_table.Statement.{statement}
+use Rattle.printing.proofs.put_table.Tie as tie
+
+abbrev Inv-loop : tie.InvT-loop
+Inv-loop out₀ s subscriptions rounds t steps next₀ i₀ out next i = Left out₀ next₀ (entriesText (labelsIn s) subscriptions t 0) out next (entriesText (labelsIn s) subscriptions t i)
+
+abbrev μ-loop : tie.MeasureT-loop
+μ-loop out₀ s subscriptions rounds t steps next₀ i₀ out next i = t .count - i
+
+table-steps-requires : tie.Need-table-steps-requires Inv-loop μ-loop
+table-steps-requires c κs = c .before .before .pre
+
+put-totals-requires : tie.Need-put-totals-requires Inv-loop μ-loop
+put-totals-requires c κs = tt
+
+loop-holds : tie.Need-loop-holds Inv-loop μ-loop
+loop-holds c = left-first _ _ _
+
+mul-e : tie.Need-mul-e Inv-loop μ-loop
+mul-e c = omega (arith, c .before .before .before .before .before .before .before .before .before .pre .few)
+
+element-copy-out-e : tie.Need-element-copy-out-e Inv-loop μ-loop
+element-copy-out-e c = omega (arith, c .before .before .before .before .before .before .before .before .before .pre .few)
+
+add-i : tie.Need-add-i Inv-loop μ-loop
+add-i c = omega (arith, c .before .before .before .before .before .before .before .before .before .before .pre .few)
+
+put-entry-requires : tie.Need-put-entry-requires Inv-loop μ-loop
+put-entry-requires c κs = let l = c .before .before .before in
+    entry-sound _ (l .before .before .before .before .before .before .before .before .pre) (l .loop .i) _ (c .before .before .loop-test .taken)
+
+loop-less : tie.Need-loop-less Inv-loop μ-loop
+loop-less c = omega arith
+
+loop-again : tie.Need-loop-again Inv-loop μ-loop
+loop-again c = let e = c .before .before in
+    let l = e .before .before .before .before in
+    let s = l .before .before .before .before .before .before .before .before in
+    left-goes-on (l .loop .inv) _ _ (entry-here (s .args .t3) (s .pre) (labelsIn (s .args .s .now)) (s .args .subscriptions) (l .loop .i) _ (omega arith)) _ _ (e .put-entry .ensures)
+
+same-length : tie.Need-same-length Inv-loop μ-loop
+same-length c = let l = c .before in
+    left-same (l .loop .inv) ∙ same-room _ _ _ _ _ (l .before .before .before .put-totals .ensures)
+
+returns : tie.Need-returns Inv-loop μ-loop
+returns c = let l = c .before in
+    let s = l .before .before .before .before .before .before .before .before in
+    let totals = l .before .before .before in
+    let steps = totals .before .before in
+    put-is _ _ _ _ (table-text (s .args .t3) (s .pre) (labelsIn (s .args .s .now)) (s .args .subscriptions) (s .args .rounds) (steps .table-steps .result) (steps .table-steps .ensures))
+    (put-then _ _ _ _ _ (totals .put-totals .ensures)
+    (left-none (l .loop .inv) (entries-end (s .args .t3) (s .pre) (labelsIn (s .args .s .now)) (s .args .subscriptions) (l .loop .i) (c .loop-test .left))))
+
+pub put-table-spec : {M : Type 1} → statement M
+put-table-spec =
+    tie.close
+    (tie.spec
+    Inv-loop
+    μ-loop
+    table-steps-requires
+    put-totals-requires
+    loop-holds
+    mul-e
+    element-copy-out-e
+    add-i
+    put-entry-requires
+    loop-less
+    loop-again
+    same-length
+    returns)

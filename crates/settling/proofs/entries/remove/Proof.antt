@@ -1,0 +1,75 @@
+-- `remove` meets its contract: the entries after j are moved down, up to the place reached.
+use Prim.Native.Nat.{_-_, _≤_}
+use mathlib.Core.Path.{_≡_, refl}
+use native.Mathlib.Omega.{arith}
+use Rattle.settling.specs.Held.{blank}
+use Rattle.settling.specs.Removing.{Moved, moved-starts, moved-goes-on, table-removed, sound-removed}
+use Rattle.settling.proofs.entries.remove.Statement.{statement}
+use Rattle.settling.proofs.entries.remove.Tie as tie
+
+abbrev Inv-loop : tie.InvT-loop
+Inv-loop j last u₀ k₀ u k = Moved (u₀ .entries) j k (u .entries) × (u .count ≡ u₀ .count) × (k ≤ last)
+
+abbrev μ-loop : tie.MeasureT-loop
+μ-loop j last u₀ k₀ u k = last - k
+
+sub-last : tie.Need-sub-last Inv-loop μ-loop
+sub-last c = omega arith
+
+loop-holds : tie.Need-loop-holds Inv-loop μ-loop
+loop-holds c = (moved-starts (c .before .args .t .entries) (c .before .args .j), refl, omega arith)
+
+add-e : tie.Need-add-e Inv-loop μ-loop
+add-e c = omega arith
+
+mul-e : tie.Need-mul-e Inv-loop μ-loop
+mul-e c = omega arith
+
+element-copy-out-e : tie.Need-element-copy-out-e Inv-loop μ-loop
+element-copy-out-e c = omega arith
+
+mul-e-2 : tie.Need-mul-e-2 Inv-loop μ-loop
+mul-e-2 c = omega arith
+
+element-set-from-e : tie.Need-element-set-from-e Inv-loop μ-loop
+element-set-from-e c = omega arith
+
+add-k : tie.Need-add-k Inv-loop μ-loop
+add-k c = omega arith
+
+loop-less : tie.Need-loop-less Inv-loop μ-loop
+loop-less c = omega arith
+
+loop-again : tie.Need-loop-again Inv-loop μ-loop
+loop-again c =
+    let a = c .before .before .before .before in
+    let l = c .before .before .loop in
+    (moved-goes-on (a .args .t .entries) (l .u .entries) (a .args .j) (l .k) blank (omega arith) (l .inv .0), l .inv .1, omega arith)
+
+returns : tie.Need-returns Inv-loop μ-loop
+returns c =
+    let a = c .before .before .before in
+    let l = c .before .loop in
+    let end : l .k ≡ a .args .t .count - 1 = omega arith in
+    let z = rw end at (l .inv .0) in (
+      table-removed (a .args .t) (a .pre .0) (a .args .j) (a .args .t .count - 1) (l .u .entries) (a .pre .1) (omega arith) z,
+      sound-removed (a .args .t) (a .pre .0) (a .args .j) (a .args .t .count - 1) (l .u .entries) (a .pre .1) (omega arith) z,
+    )
+
+pub remove-spec : {M : Type 1} → statement M
+remove-spec =
+    tie.close
+    (tie.spec
+    Inv-loop
+    μ-loop
+    sub-last
+    loop-holds
+    add-e
+    mul-e
+    element-copy-out-e
+    mul-e-2
+    element-set-from-e
+    add-k
+    loop-less
+    loop-again
+    returns)

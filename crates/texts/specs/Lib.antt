@@ -1,0 +1,3 @@
+pub mod Output
+pub mod Decimals
+pub mod Wanted
