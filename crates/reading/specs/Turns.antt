@@ -11,8 +11,7 @@ use native.Mathlib.Omega.{arith}
 use native.Mathlib.Numerals.{add-one}
 use borrow.Author.Tests.{eq-eqb, ne-eqb}
 use Rattle.base.specs.Choice.{pick}
-use Rattle.base.specs.Standing.{split, none-left}
-use Rattle.base.specs.Loops.{run, run-goes-on, run-stops}
+use Rattle.base.specs.Loops.{run, run-goes-on, run-stops, split, none-left}
 use Rattle.base.specs.declared.Cur.{Cur}
 use Rattle.base.specs.declared.Cur.the-variants.{At, No}
 use Rattle.meaning.specs.Sections.{sameLabel}
