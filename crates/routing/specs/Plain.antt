@@ -2,7 +2,7 @@
 use Prim.Native.Nat.{ℕ, suc, _+_, _≤_, _<_}
 use mathlib.Core.Path.{_≡_, refl, sym, ap, _∙_}
 use mathlib.Core.Bool.{Bool}
-use mathlib.Core.List.{List, [], _∷_, _++_, map}
+use mathlib.Core.List.{List, [], _∷_, _++_, map, map-append}
 use native.Mathlib.Omega.{arith}
 use native.Mathlib.Numerals.{add-one}
 use borrow.Author.Tests.{lt-ltb, le-ltb}
@@ -19,11 +19,6 @@ use Rattle.meaning.specs.Calls.{isSubscription, subscription}
 use Rattle.meaning.specs.declared.Asked.{Asked}
 use Rattle.meaning.specs.declared.Asked.the-variants as asked
 use Rattle.routing.specs.Marks.{marked, delivery-last}
-
--- a map of one more
-map-last : {A B : Type 0} (f : A → B) (xs : List A) (x : A) → map f (xs ++ (x ∷ [])) ≡ map f xs ++ (f x ∷ [])
-map-last f [] x = refl
-map-last {B = B} f (y ∷ ys) x = ap (λ (l : List B). f y ∷ l) (map-last f ys x)
 
 module _ (ns : List Node) (ps : List Forest) where
   -- the delivery set of the first i subscriptions
@@ -42,7 +37,7 @@ module _ (ns : List Node) (ps : List Forest) where
       let first = map (satisfies ns) (take i ps) in
       let long : length first ≡ i = length-map (take i ps) (satisfies ns) ∙ length-take-le i ps (omega arith) in
       let more : map (satisfies ns) (take (suc i) ps) ≡ first ++ (satisfies ns (getD ps i none) ∷ []) =
-      ap (map (satisfies ns)) (take-suc ps i none h) ∙ map-last (satisfies ns) (take i ps) (getD ps i none) in
+      ap (map (satisfies ns)) (take-suc ps i none h) ∙ map-append (satisfies ns) (take i ps) (getD ps i none ∷ []) in
       rw (add-one i, f, e, more) (sym (rw long at (delivery-last first (satisfies ns (getD ps i none)))))
 
   -- all of them are the plain route
