@@ -1,14 +1,14 @@
 -- Loops along a list or along numbers: what is left of them from here gives what all of them gives from the start.
-use Prim.Native.Nat.{ℕ, zero, suc, _+_, _-_, _<_, _≤_}
-use mathlib.Core.Path.{_≡_, refl, sym, ap, _∙_}
-use mathlib.Core.Bool.{Bool, true, false, _&&_}
+use Prim.Native.Nat.{ℕ, _+_, _-_, _<_, _≤_}
+use mathlib.Core.Path.{_≡_, sym, ap, _∙_}
+use mathlib.Core.Bool.{Bool, true, false}
 use mathlib.Core.List.{List, [], _∷_}
 use native.Mathlib.Omega.{arith}
 use native.Mathlib.Numerals.{add-one}
 use lib.ListN.{length, getD, drop, drop-of-length-le}
 use lib.Seq.{drop-cons}
 use Rattle.base.specs.Lists.{every}
-use Rattle.base.specs.Loops.{foldN}
+use Rattle.base.specs.Loops.{foldN, split, none-left}
 
 module _ {A B : Type 0} where
   -- f at each element of a list, from its front, each on what the one before gave
@@ -42,14 +42,6 @@ module _ {A : Type 0} (p : A → Bool) (xs : List A) (d : A) (j : ℕ) (whole : 
   pub every-ends : length xs ≤ j → true ≡ whole
   unfolding every
   every-ends h = sym (rw (drop-of-length-le xs h)) ∙ left
-
--- as many are left as there are, less those passed
-split : (n i : ℕ) → i < n → n - i ≡ suc (n - (i + 1))
-split n i h = omega arith
-
--- none are left from n on
-none-left : (n i : ℕ) → n ≤ i → n - i ≡ 0
-none-left n i h = omega arith
 
 module _ {B : Type 0} (f : ℕ → B → B) (n i : ℕ) (b whole : B) where
   -- a fold over numbers

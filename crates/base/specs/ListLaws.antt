@@ -2,7 +2,7 @@
 use Prim.Native.Nat.{ℕ, zero, suc, _+_, _≤_, _<_}
 use mathlib.Core.Path.{_≡_, refl, sym, _∙_, ap}
 use mathlib.Core.Logic.{_⊎_, inl, inr, ⊎-elim}
-use mathlib.Core.Bool.{Bool, true, false, false≢true}
+use mathlib.Core.Bool.{Bool, true, false, _||_, or-assoc, false≢true}
 use mathlib.Core.List.{List, [], _∷_, _++_, List·Memᴰ, List·Memᴰ·head, List·Memᴰ·tail, List·Memᴰ·cases-cons}
 use native.Mathlib.Omega.{arith}
 use native.Mathlib.Nat.{add-assoc, eq-or-lt-of-le}
@@ -26,6 +26,18 @@ module _ {A : Type 0} where
   unfolding some
   some-of p (List·Memᴰ·head {x = y} {xs = ys} e) h = or-first (p y) (some p ys) (ap p (sym e) ∙ h)
   some-of p (List·Memᴰ·tail {x = y} {xs = ys} m) h = or-second (p y) (some p ys) (some-of p m h)
+
+  -- tests that agree hold of some element of the same lists
+  pub some-same : (p q : A → Bool) (xs : List A) → ((x : A) → p x ≡ q x) → some p xs ≡ some q xs
+  unfolding some
+  some-same p q [] h = refl
+  some-same p q (x ∷ xs) h = rw (h x, some-same p q xs h)
+
+  -- of two lists, some of the one or some of the other
+  pub some-append : (p : A → Bool) (xs ys : List A) → some p (xs ++ ys) ≡ (some p xs || some p ys)
+  unfolding some
+  some-append p [] ys = refl
+  some-append p (x ∷ xs) ys = ap (λ (b : Bool). p x || b) (some-append p xs ys) ∙ sym (or-assoc (p x) (some p xs) (some p ys))
 
   -- what holds of every element holds of each
   pub every-gives : (p : A → Bool) {x : A} {xs : List A} → every p xs ≡ true → List·Memᴰ x xs → p x ≡ true

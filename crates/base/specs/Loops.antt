@@ -29,10 +29,11 @@ foldN f zero i a = a
 foldN f (suc k) i a = foldN f k (i + 1) (f i a)
 
 -- as many are left as there are, less those passed
-split : (n i : ℕ) → i < n → n - i ≡ suc (n - (i + 1))
+pub split : (n i : ℕ) → i < n → n - i ≡ suc (n - (i + 1))
 split n i h = omega arith
 
-none-left : (n i : ℕ) → n ≤ i → n - i ≡ 0
+-- none is left once all are passed
+pub none-left : (n i : ℕ) → n ≤ i → n - i ≡ 0
 none-left n i h = omega arith
 
 -- ---- a loop `while i < n` that reads: its state at i is right where the rest of the run from there gives the whole run

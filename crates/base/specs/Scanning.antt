@@ -6,30 +6,24 @@ use mathlib.Core.Logic.{⊎-elim}
 use native.Mathlib.Omega.{arith}
 use native.Mathlib.Nat.{eq-or-lt-of-le}
 use Rattle.base.specs.Choice.{pick}
-use Rattle.base.specs.Loops.{scan}
+use Rattle.base.specs.Loops.{scan, split, none-left}
 
 -- ---- a loop `while i < n`: what is left of the search from i on gives the whole
 module _ (p : ℕ → Bool) (n i whole : ℕ) where
   -- the test holds
   pub scan-stops : i < n → p i ≡ true → scan p (n - i) i ≡ whole → i ≡ whole
   unfolding scan pick
-  scan-stops h e q =
-      let some : n - i ≡ suc (n - (i + 1)) = omega arith in
-      rw (some, e) at q
+  scan-stops h e q = rw (split n i h, e) at q
 
   -- it fails
   pub scan-goes-on : i < n → p i ≡ false → scan p (n - i) i ≡ whole → scan p (n - (i + 1)) (i + 1) ≡ whole
   unfolding scan pick
-  scan-goes-on h e q =
-      let some : n - i ≡ suc (n - (i + 1)) = omega arith in
-      rw (some, e) at q
+  scan-goes-on h e q = rw (split n i h, e) at q
 
   -- no number is left
   pub scan-ends : n ≤ i → scan p (n - i) i ≡ whole → i ≡ whole
   unfolding scan
-  scan-ends h q =
-      let none : n - i ≡ 0 = omega arith in
-      rw none at q
+  scan-ends h q = rw (none-left n i h) at q
 
 module _ (p : ℕ → Bool) where
   -- it is one of the numbers asked, or the one after them

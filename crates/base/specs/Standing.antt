@@ -9,7 +9,7 @@ use native.Mathlib.Nat.{le-of-suc-le-suc, not-suc-le-zero, add-zero}
 use lib.ListN.{length, getD, take, set}
 use lib.Seq.{take-all, take-suc-set}
 use Rattle.base.specs.Lists.{some}
-use Rattle.base.specs.Loops.{andThen, run}
+use Rattle.base.specs.Loops.{andThen, run, split, none-left}
 use Rattle.base.specs.declared.Cur.{Cur}
 use Rattle.base.specs.declared.Cur.the-variants.{At, No}
 
@@ -88,14 +88,6 @@ module _ {A : Type 0} (here : ℕ → A) (next : ℕ → ℕ) where
   getD-standing p zero i d h = absurd (not-suc-le-zero h)
   getD-standing p (suc n) zero d h = refl
   getD-standing p (suc n) (suc i) d h = getD-standing (next p) n i d (le-of-suc-le-suc h)
-
--- as many are left as there are, less those passed
-pub split : (n i : ℕ) → i < n → n - i ≡ suc (n - (i + 1))
-split n i h = omega arith
-
--- none is left once all are passed
-pub none-left : (n i : ℕ) → n ≤ i → n - i ≡ 0
-none-left n i h = omega arith
 
 -- ---- a loop that looks for a thing of which the test holds: what is left of it from here gives what all of it gives
 module _ {A : Type 0} (here : ℕ → A) (next : ℕ → ℕ) (test : A → Bool) (n i x : ℕ) (whole : Bool) where

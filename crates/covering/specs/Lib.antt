@@ -1,5 +1,3 @@
-pub mod Preorder
-pub mod Blocks
 pub mod Places
 pub mod Tests
 pub mod Questions

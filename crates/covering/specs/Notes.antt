@@ -1,6 +1,6 @@
 -- The notes of one covering: what was decided of a pair of steps, and that a note changes no answer.
 use Prim.Native.Nat.{ℕ, _+_, _*_, _-_, _≤_}
-use mathlib.Core.Path.{_≡_, sym, _∙_, ap}
+use mathlib.Core.Path.{_≡_, sym, _∙_}
 use mathlib.Core.Logic.{_⊎_, inl, inr}
 use mathlib.Core.Bool.{Bool, true, false}
 use mathlib.Core.List.{List}
@@ -38,21 +38,21 @@ nothing-noted a b p q = record {
   don't = λ v w h i j k e. absurd (omega (arith, e, getD-replicate {A = ℕ} 256 (cellOf v w) 0 0 (omega arith)));
 }
 
--- what a cell holds after a note was put: the note at its own pair, what was there at another
-after-put : (P : ℕ → ℕ → Type 0) (notes : List ℕ) (v w n m : ℕ) → length notes ≡ 256 → 1 ≤ v → v ≤ 16 → 1 ≤ w → w ≤ 16
-    → (n ≡ m → P v w) → ((x y : ℕ) → 1 ≤ x → x ≤ 16 → 1 ≤ y → y ≤ 16 → getD notes (cellOf x y) 0 ≡ m → P x y)
-    → (x y : ℕ) → 1 ≤ x → x ≤ 16 → 1 ≤ y → y ≤ 16 → getD (set notes (cellOf v w) n) (cellOf x y) 0 ≡ m → P x y
+-- what is so of every cell stays so where one is filled with what it is so of
+pub cell-filled : {A : Type 0} (P : ℕ → ℕ → A → Type 0) (cells : List A) (v w : ℕ) (n d : A) → length cells ≡ 256 → 1 ≤ v → v ≤ 16 → 1 ≤ w → w ≤ 16 → P v w n
+    → ((x y : ℕ) → 1 ≤ x → x ≤ 16 → 1 ≤ y → y ≤ 16 → P x y (getD cells (cellOf x y) d))
+    → (x y : ℕ) → 1 ≤ x → x ≤ 16 → 1 ≤ y → y ≤ 16 → P x y (getD (set cells (cellOf v w) n) (cellOf x y) d)
 unfolding cellOf
-after-put P notes v w n m full hv lv hw lw own other x y hx lx hy ly e = go (true-or-false (eqb (cellOf x y) (cellOf v w)))
+cell-filled P cells v w n d full hv lv hw lw own other x y hx lx hy ly = go (true-or-false (eqb (cellOf x y) (cellOf v w)))
   where
-    go : (eqb (cellOf x y) (cellOf v w) ≡ true) ⊎ (eqb (cellOf x y) (cellOf v w) ≡ false) → P x y
+    go : (eqb (cellOf x y) (cellOf v w) ≡ true) ⊎ (eqb (cellOf x y) (cellOf v w) ≡ false) → P x y (getD (set cells (cellOf v w) n) (cellOf x y) d)
     go (inl q) =
         let same : cellOf x y ≡ cellOf v w = eqb-true (cellOf x y) (cellOf v w) q in
-        let sx : v ≡ x = omega arith in
-        let sy : w ≡ y = omega arith in
-        let put : getD (set notes (cellOf v w) n) (cellOf v w) 0 ≡ n = getD-set-same notes (cellOf v w) n 0 (omega arith) in
-        rw (sym sx, sym sy) (own (sym put ∙ ap (λ (i : ℕ). getD (set notes (cellOf v w) n) i 0) (sym same) ∙ e))
-    go (inr q) = other x y hx lx hy ly (sym (getD-set-other notes (cellOf v w) (cellOf x y) n 0 (eqb-false (cellOf x y) (cellOf v w) q)) ∙ e)
+        let sx : x ≡ v = omega arith in
+        let sy : y ≡ w = omega arith in
+        let put : getD (set cells (cellOf v w) n) (cellOf v w) d ≡ n = getD-set-same cells (cellOf v w) n d (omega arith) in
+        rw (sx, sy, put) own
+    go (inr q) = rw (getD-set-other cells (cellOf v w) (cellOf x y) n d (eqb-false (cellOf x y) (cellOf v w) q)) (other x y hx lx hy ly)
 
 -- what was decided, put as a note, keeps the notes right
 pub note-put : (a b : Pattern) (notes : List ℕ) (v w n : ℕ) (r : Bool) → Noted a b notes → 1 ≤ v → v ≤ 16 → 1 ≤ w → w ≤ 16
@@ -62,6 +62,6 @@ note-put a b notes v w n r h hv lv hw lw e one two = record {
   first = h .first;
   second = h .second;
   full = length-set notes (cellOf v w) n ∙ h .full;
-  lie = after-put (λ x y. childrenLie (stepsIn a) x (stepsIn b) y ≡ true) notes v w n 1 (h .full) hv lv hw lw (λ q. sym e ∙ one q) (h .lie);
-  don't = after-put (λ x y. childrenLie (stepsIn a) x (stepsIn b) y ≡ false) notes v w n 2 (h .full) hv lv hw lw (λ q. sym e ∙ two q) (h .don't);
+  lie = cell-filled (λ x y m. m ≡ 1 → childrenLie (stepsIn a) x (stepsIn b) y ≡ true) notes v w n 0 (h .full) hv lv hw lw (λ q. sym e ∙ one q) (h .lie);
+  don't = cell-filled (λ x y m. m ≡ 2 → childrenLie (stepsIn a) x (stepsIn b) y ≡ false) notes v w n 0 (h .full) hv lv hw lw (λ q. sym e ∙ two q) (h .don't);
 }

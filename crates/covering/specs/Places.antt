@@ -1,7 +1,7 @@
 -- The search for a place below a step goes through the steps after it, up to the first whose parent is above it.
 use Prim.Native.Nat.{ℕ, suc, _+_, _≤_, _<_}
 use mathlib.Core.Path.{_≡_, refl, _∙_, ap}
-use mathlib.Core.Bool.{Bool, true, false, _&&_, _||_}
+use mathlib.Core.Bool.{Bool, true, false, _&&_, _||_, or-false}
 use mathlib.Core.List.{List, [], _∷_, _++_}
 use native.Mathlib.Omega.{arith}
 use lib.Dec.{eqb, ltb}
@@ -10,8 +10,9 @@ use Rattle.base.specs.Choice.{pick}
 use Rattle.meaning.specs.Forest.{Axis, near, far, axisOf, Forest, none, step, size, childrenIn, stepsFrom}
 use Rattle.meaning.specs.Covering.{finds}
 use Rattle.meaning.specs.declared.Step.{Step}
-use Rattle.covering.specs.Preorder.{Outside, outside-later, afterwards, outside-afterwards, written, steps-split, read-back, axis-back}
-use Rattle.covering.specs.Blocks.{Ends, Block}
+use Rattle.laws.specs.Bridge.{axis-written}
+use Rattle.laws.specs.Outside.{Outside, outside-later, afterwards, outside-afterwards, written, steps-split, read-back}
+use Rattle.laws.specs.Blocks.{Ends, Block}
 
 -- a near step looks at the children of w alone, a far step at every step of w's block
 unfoldable pub inReach : Axis → ℕ → ℕ → Bool
@@ -49,18 +50,13 @@ at-step x passes w k p a m kids later after l h o =
     let rest : List Step = stepsFrom k (suc k) kids ++ afterwards p k kids later after in
     let below : childrenIn k (suc k) rest ≡ kids =
     read-back k (suc k) kids (afterwards p k kids later after) (omega arith) (outside-afterwards p k kids later after h o′) in
-    ap (placeFrom x passes w k) (steps-split p k a m kids later after) ∙ rw (le-ltb p w l, axis-back a, below)
+    ap (placeFrom x passes w k) (steps-split p k a m kids later after) ∙ rw (le-ltb p w l, axis-written a, below)
 
 -- four tests, either way bracketed
 or-or : (a b c d : Bool) → (a || (b || (c || d))) ≡ ((a || (b || c)) || d)
 or-or true b c d = refl
 or-or false true c d = refl
 or-or false false c d = refl
-
--- nothing more to try
-or-false : (a : Bool) → (a || false) ≡ a
-or-false true = refl
-or-false false = refl
 
 module _ (passes : Axis → ℕ → Forest → Bool) (w : ℕ) where
   -- a far step's search of a block asks every step of it

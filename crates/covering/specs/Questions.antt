@@ -1,17 +1,13 @@
 -- What the functions ask of numbered steps, and the notes of what was answered.
-use Prim.Native.Nat.{ℕ, suc}
+use Prim.Native.Nat.{ℕ}
 use mathlib.Core.Bool.{Bool, _&&_}
 use mathlib.Core.List.{List}
-use lib.ListN.{drop}
-use Rattle.meaning.specs.Forest.{Axis, axisOf, Forest, childrenIn}
+use Rattle.meaning.specs.Forest.{Axis, axisOf, Forest}
 use Rattle.meaning.specs.Satisfying.{anyOrSame}
 use Rattle.meaning.specs.Covering.{stepAt, mayLie, finds, fitsAt, lays}
 use Rattle.meaning.specs.declared.Step.{Step}
+use Rattle.laws.specs.Children.{childrenOf}
 use Rattle.covering.specs.Places.{inReach}
-
--- the child steps of step v, or of the root, which is 0
-unfoldable pub childrenOf : List Step → ℕ → Forest
-childrenOf ss v = childrenIn v (suc v) (drop v ss)
 
 -- all children of step v of A find a place below step w of B
 unfoldable pub childrenLie : List Step → ℕ → List Step → ℕ → Bool

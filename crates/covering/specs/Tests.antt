@@ -6,7 +6,7 @@ use mathlib.Core.Bool.{Bool, true, false, not, _&&_}
 use lib.Dec.{eqb}
 use borrow.Author.Tests.{eqb-true, eqb-false, not-true, not-false}
 use native.Mathlib.Omega.{arith}
-use Rattle.meaning.specs.Forest.{near, far, axisOf, isNear}
+use Rattle.meaning.specs.Forest.{axisOf, isNear}
 use Rattle.meaning.specs.Satisfying.{anyOrSame}
 use Rattle.meaning.specs.Covering.{mayLie}
 use Rattle.covering.specs.Places.{inReach}

@@ -1,123 +1,81 @@
 -- One law for each way through the two loops: what is left of the steps from here on answers what all of them answer.
-use Prim.Native.Nat.{ℕ, zero, suc, _+_, _-_, _≤_, _<_}
-use mathlib.Core.Path.{_≡_, refl, sym, _∙_, ap}
-use mathlib.Core.Bool.{Bool, true, false, _&&_, _||_}
-use mathlib.Core.List.{List, [], _∷_}
-use native.Mathlib.Omega.{arith}
+use Prim.Native.Nat.{ℕ, suc, _+_, _-_, _≤_, _<_}
+use mathlib.Core.Path.{_≡_, sym, _∙_, ap}
+use mathlib.Core.Bool.{Bool, true, false, _&&_, _||_, and-assoc}
+use mathlib.Core.List.{List}
 use native.Mathlib.Numerals.{add-one}
-use lib.ListN.{length, getD, drop, drop-of-length-le}
-use lib.Seq.{drop-cons, getD-take, length-take-le}
-use borrow.Author.Tests.{eq-eqb, ne-eqb, lt-ltb, le-ltb}
+use lib.ListN.{drop}
+use borrow.Author.Tests.{lt-ltb, le-ltb}
 use Rattle.base.specs.Choice.{pick}
-use Rattle.meaning.specs.Forest.{axisOf, none, step, childrenIn}
+use Rattle.meaning.specs.Forest.{axisOf}
 use Rattle.meaning.specs.Satisfying.{anyOrSame}
-use Rattle.meaning.specs.Covering.{stepAt, mayLie, finds, fitsAt, lays}
+use Rattle.meaning.specs.Covering.{stepAt, mayLie, fitsAt, lays}
 use Rattle.meaning.specs.declared.Step.{Step}
-use Rattle.shapes.specs.Shapes.{stepsIn, patternOf, SoundPattern}
+use Rattle.laws.specs.Children.{childrenFrom, childrenOf}
+use Rattle.shapes.specs.Shapes.{stepsIn, SoundPattern}
+use Rattle.shapes.specs.Steps.{stepIn, step-at, steps-from, steps-end, block-in, child-here, child-not, children-end}
 use Rattle.shapes.specs.declared.Pattern.{Pattern}
-use Rattle.covering.specs.Blocks.{block-of}
 use Rattle.covering.specs.Places.{inReach, placeFrom, tried, place-found}
-use Rattle.covering.specs.Questions.{childrenOf, childrenLie, fitsStep, someFits, mayLieBelow, liesAt}
-
--- the step at place k of a pattern's array, counted from 0
-unfoldable pub stepIn : Pattern → ℕ → Step
-stepIn p k = getD (p .steps) k (record { parent = 0; axis = 0; label = 0 })
-
-module _ (p : Pattern) (sound : SoundPattern p) where
-  -- as many steps are there as are counted
-  pub length-steps : length (stepsIn p) ≡ p .count
-  unfolding stepsIn
-  length-steps = length-take-le (p .count) (p .steps) (omega (arith, sound .few, sound .full))
-
-  -- step k + 1 stands at place k
-  pub step-at : (k : ℕ) → k < p .count → stepAt (stepsIn p) (suc k) ≡ stepIn p k
-  unfolding stepsIn stepAt stepIn
-  step-at k h = getD-take (p .count) (p .steps) k (record { parent = 0; axis = 0; label = 0 }) h
-
-  -- step k stands at place k - 1
-  pub step-number : (k : ℕ) → 1 ≤ k → k ≤ p .count → stepIn p (k - 1) ≡ stepAt (stepsIn p) k
-  step-number zero l h = absurd (omega arith)
-  step-number (suc k) l h = ap (stepIn p) (omega arith) ∙ sym (step-at k h)
-
-  -- the steps from a place on
-  pub steps-from : (k : ℕ) → k < p .count → drop k (stepsIn p) ≡ stepIn p k ∷ drop (suc k) (stepsIn p)
-  unfolding stepsIn stepIn stepAt
-  steps-from k h =
-      drop-cons (stepsIn p) k (record { parent = 0; axis = 0; label = 0 }) (rw length-steps h)
-      ∙ ap (λ (s : Step). s ∷ drop (suc k) (stepsIn p)) (step-at k h)
-
-  -- past the last there are none
-  pub steps-end : (k : ℕ) → p .count ≤ k → drop k (stepsIn p) ≡ []
-  steps-end k h = drop-of-length-le (stepsIn p) {i = k} (rw length-steps h)
+use Rattle.covering.specs.Questions.{childrenLie, fitsStep, someFits, mayLieBelow, liesAt}
 
 -- all children of step v among the steps from place k on find a place below step w
 unfoldable pub restLie : List Step → ℕ → ℕ → List Step → ℕ → Bool
-restLie a v k b w = lays (childrenIn v (suc k) (drop k a)) (childrenOf b w)
+restLie a v k b w = lays (childrenFrom a v k) (childrenOf b w)
 
 module _ (p : Pattern) (sound : SoundPattern p) (v k : ℕ) (b : List Step) (w : ℕ) (whole : Bool) where
   -- at a child of v
   rest-child : k < p .count → stepIn p k .parent ≡ v
-      → restLie (stepsIn p) v k b w ≡ (someFits (stepsIn p) (suc k) b w && restLie (stepsIn p) v (suc k) b w)
-  unfolding restLie childrenIn pick lays someFits childrenOf fitsStep
-  rest-child h e = rw (steps-from p sound k h, eq-eqb (stepIn p k .parent) v e, step-at p sound k h)
+      → restLie (stepsIn p) v k b w ≡ (someFits (stepsIn p) (k + 1) b w && restLie (stepsIn p) v (k + 1) b w)
+  unfolding restLie lays someFits fitsStep
+  rest-child h e = rw (child-here p sound v k h e, add-one, step-at p sound k h)
 
   -- at another step
-  rest-other : k < p .count → (stepIn p k .parent ≡ v → ⊥) → restLie (stepsIn p) v k b w ≡ restLie (stepsIn p) v (suc k) b w
-  unfolding restLie childrenIn pick
-  rest-other h e = rw (steps-from p sound k h, ne-eqb (stepIn p k .parent) v e)
+  rest-other : k < p .count → (stepIn p k .parent ≡ v → ⊥) → restLie (stepsIn p) v k b w ≡ restLie (stepsIn p) v (k + 1) b w
+  unfolding restLie
+  rest-other h e = rw (child-not p sound v k h e)
 
   -- a child finds a place
   pub child-lies : (r : Bool) → k < p .count → stepIn p k .parent ≡ v → r ≡ someFits (stepsIn p) (k + 1) b w → r ≡ true
       → restLie (stepsIn p) v k b w ≡ whole → restLie (stepsIn p) v (k + 1) b w ≡ whole
-  child-lies r h e q t i =
-      let found : someFits (stepsIn p) (suc k) b w ≡ true = sym (rw (add-one k) at q) ∙ t in
-      rw (add-one k) (sym (rest-child h e ∙ rw found) ∙ i)
+  child-lies r h e q t i = sym (rest-child h e ∙ rw (← q, t)) ∙ i
 
   -- a child finds none
   pub child-doesn't : (r : Bool) → k < p .count → stepIn p k .parent ≡ v → r ≡ someFits (stepsIn p) (k + 1) b w → r ≡ false
       → restLie (stepsIn p) v k b w ≡ whole → false ≡ whole
-  child-doesn't r h e q t i =
-      let lost : someFits (stepsIn p) (suc k) b w ≡ false = sym (rw (add-one k) at q) ∙ t in
-      sym (rest-child h e ∙ rw lost) ∙ i
+  child-doesn't r h e q t i = sym (rest-child h e ∙ rw (← q, t)) ∙ i
 
   -- no child of v
   pub no-child : k < p .count → (stepIn p k .parent ≡ v → ⊥) → restLie (stepsIn p) v k b w ≡ whole → restLie (stepsIn p) v (k + 1) b w ≡ whole
-  no-child h e i = rw (add-one k) (sym (rest-other h e) ∙ i)
+  no-child h e i = sym (rest-other h e) ∙ i
 
   -- none is left
   pub all-lay : p .count ≤ k → restLie (stepsIn p) v k b w ≡ whole → true ≡ whole
-  unfolding restLie childrenIn lays
-  all-lay h i = sym (rw (steps-end p sound k h)) ∙ i
+  unfolding restLie lays
+  all-lay h i = sym (rw (children-end p sound v k h)) ∙ i
 
 -- some place from place u on, below step w, fits step s, which is number k of A
 unfoldable pub restFits : List Step → ℕ → Step → List Step → ℕ → ℕ → Bool
 restFits a k s b w u = placeFrom (axisOf (s .axis)) (fitsStep a k s) w (suc u) (drop u b)
 
--- three tests, either way bracketed
-and-and : (a b c : Bool) → (a && (b && c)) ≡ ((a && b) && c)
-and-and true b c = refl
-and-and false b c = refl
-
 -- the search starts right after w
 pub search-starts : (p : Pattern) → SoundPattern p → (a : List Step) (k : ℕ) (s : Step) (w : ℕ) → w ≤ p .count → s ≡ stepAt a k
     → restFits a k s (stepsIn p) w w ≡ someFits a k (stepsIn p) w
-unfolding restFits someFits childrenOf
+unfolding restFits someFits childrenOf childrenFrom
 search-starts p sound a k s w h e =
-    rw e
-    (place-found (fitsStep a k (stepAt a k)) w (axisOf (stepAt a k .axis)) (drop w (stepsIn p))
-    (block-of w (patternOf p) (stepsIn p) (sound .written) (rw (length-steps p sound) h)))
+    rw e (place-found (fitsStep a k (stepAt a k)) w (axisOf (stepAt a k .axis)) (drop w (stepsIn p)) (block-in p sound w h))
 
 module _ (p : Pattern) (sound : SoundPattern p) (a : List Step) (k : ℕ) (s : Step) (w u : ℕ) (whole : Bool) where
   -- at a step of w's block
   rest-place : u < p .count → w ≤ stepIn p u .parent → restFits a k s (stepsIn p) w u
       ≡ ((mayLieBelow s w (stepIn p u) && childrenLie a k (stepsIn p) (suc u)) || restFits a k s (stepsIn p) w (suc u))
-  unfolding restFits placeFrom pick tried mayLieBelow childrenLie fitsStep fitsAt childrenOf
+  unfolding restFits placeFrom pick tried mayLieBelow childrenLie fitsStep fitsAt childrenOf childrenFrom
   rest-place h l =
       rw (steps-from p sound u h, le-ltb (stepIn p u .parent) w l)
       (ap (λ (z : Bool). z || restFits a k s (stepsIn p) w (suc u))
-      (and-and (inReach (axisOf (s .axis)) w (stepIn p u .parent))
+      (sym
+      (and-assoc (inReach (axisOf (s .axis)) w (stepIn p u .parent))
       (mayLie (axisOf (s .axis)) (s .label) (axisOf (stepIn p u .axis)) (stepIn p u .label))
-      (childrenLie a k (stepsIn p) (suc u))))
+      (childrenLie a k (stepsIn p) (suc u)))))
 
   -- the block below w ends
   pub block-ends : u < p .count → stepIn p u .parent < w → restFits a k s (stepsIn p) w u ≡ whole → false ≡ whole

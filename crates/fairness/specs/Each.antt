@@ -1,7 +1,7 @@
 -- A fair table: every entry peopled from within the sheet, and each subscription in exactly one entry that covers it; asked one after the other.
 use Prim.Native.Nat.{ℕ, _+_, _*_, _%_, _^_, _≤_, _<_}
 use mathlib.Core.Path.{_≡_, refl, sym, ap, _∙_}
-use mathlib.Core.Bool.{Bool, true, false, _&&_}
+use mathlib.Core.Bool.{Bool, true, false, _&&_, and-assoc}
 use mathlib.Core.List.{List, [], _∷_}
 use native.Mathlib.Numerals.{add-one}
 use native.Mathlib.Omega.{arith}
@@ -64,11 +64,7 @@ both-every n (e ∷ es) = go (ltb 0 (e .members)) (ltb (e .members) (2 ^ n)) (ev
 -- both parts make a table fair
 pub fair-parts : (ps : List Forest) (es : List Entry) → (every (isFit (length ps)) es && eachInOne 0 ps es) ≡ fair ps es
 unfolding fair
-fair-parts ps es = ap (λ (b : Bool). b && eachInOne 0 ps es) (both-every (length ps) es) ∙ go (every isPeopled es) (every (isWithin (length ps)) es)
-  where
-    go : (a b : Bool) → ((a && b) && eachInOne 0 ps es) ≡ (a && (b && eachInOne 0 ps es))
-    go true b = refl
-    go false b = refl
+fair-parts ps es = ap (λ (b : Bool). b && eachInOne 0 ps es) (both-every (length ps) es) ∙ and-assoc (every isPeopled es) (every (isWithin (length ps)) es) (eachInOne 0 ps es)
 
 -- ---- each subscription, from number i on
 module _ (ps : List Forest) (es : List Entry) (i : ℕ) (whole : Bool) (left : eachInOne i (drop i ps) es ≡ whole) where

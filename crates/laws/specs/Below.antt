@@ -1,15 +1,19 @@
--- What is strictly below what, by the numbers of the parents.
+-- What is strictly below what, by the numbers of the parents, and where a step of either axis looks.
 use Prim.Native.Nat.{ℕ, zero, suc, _≤_, _<_}
 use mathlib.Core.Path.{_≡_, refl}
-use mathlib.Core.Logic.{⊎-elim}
-use mathlib.Core.Bool.{true, false≢true}
+use mathlib.Core.Logic.{_⊎_, inl, inr, ⊎-elim}
+use mathlib.Core.Bool.{Bool, true, false≢true}
 use mathlib.Core.List.{List}
 use native.Mathlib.Omega.{arith}
 use borrow.Author.Tests.{eqb-true, eq-eqb}
 use lib.ListN.{length, getD}
 use Rattle.base.specs.Bools.{or-cases, or-first, or-second}
-use Rattle.meaning.specs.Forest.{parentIn, isChild, isBelowIn, isBelow}
+use Rattle.meaning.specs.Forest.{Axis, near, far, parentIn, isChild, isBelowIn, isBelow, reaches}
 use Rattle.laws.specs.Rising.{Rising}
+
+-- the test holds of a child of t
+abbrev pub ByChild : List ℕ → ℕ → (ℕ → Bool) → Type 0
+ByChild parents t test = (w : ℕ) × (w ≤ length parents) × (isChild parents t w ≡ true) × (test w ≡ true)
 
 module _ (parents : List ℕ) where
   -- nothing is above the root or top
@@ -31,12 +35,12 @@ module _ (parents : List ℕ) where
   child-of-parent (suc k) h = eq-eqb (getD parents k 0) (getD parents k 0) refl
 
   -- a child is below
-  pub below-of-child : (n t u : ℕ) → isChild parents t u ≡ true → isBelowIn (suc n) parents t u ≡ true
+  below-of-child : (n t u : ℕ) → isChild parents t u ≡ true → isBelowIn (suc n) parents t u ≡ true
   unfolding isBelowIn
   below-of-child n t u h = or-first (isChild parents t u) _ h
 
   -- what is below a child of t is below t
-  pub below-child : (n t w u : ℕ) → isChild parents t w ≡ true → isBelowIn n parents w u ≡ true → isBelowIn (suc n) parents t u ≡ true
+  below-child : (n t w u : ℕ) → isChild parents t w ≡ true → isBelowIn n parents w u ≡ true → isBelowIn (suc n) parents t u ≡ true
   unfolding isBelowIn
   below-child zero t w u c h = absurd (false≢true h)
   below-child (suc n) t w u c h =
@@ -64,6 +68,12 @@ module _ (parents : List ℕ) where
     parent-lower zero h l = absurd (omega arith)
     parent-lower (suc k) h l = omega (arith, rises .low k l)
 
+    -- a child has a higher number
+    pub child-above : (t u : ℕ) → u ≤ length parents → isChild parents t u ≡ true → t < u
+    unfolding isChild
+    child-above t zero l h = absurd (false≢true h)
+    child-above t (suc k) l h = rw (parent-of-child t (suc k) h) at (parent-lower (suc k) (omega arith) l)
+
     -- to go up as many times as the number says is enough
     fewer-times : (n t u : ℕ) → u ≤ length parents → isBelowIn n parents t u ≡ true → isBelowIn u parents t u ≡ true
     unfolding isBelowIn
@@ -79,6 +89,41 @@ module _ (parents : List ℕ) where
         (or-cases (isChild parents t (suc k)) _ h)
 
     -- however often one went up to find it, it is below
-    pub is-below : (n t u : ℕ) → u ≤ length parents → isBelowIn n parents t u ≡ true → isBelow parents t u ≡ true
+    is-below : (n t u : ℕ) → u ≤ length parents → isBelowIn n parents t u ≡ true → isBelow parents t u ≡ true
     unfolding isBelow
     is-below n t u l h = more-times u (length parents) t u l (fewer-times n t u l h)
+
+    -- what is below t is a child of t or below a child of t
+    split-in : (n t u : ℕ) → u ≤ length parents → isBelowIn n parents t u ≡ true → (isChild parents t u ≡ true) ⊎ ByChild parents t (λ w. isBelowIn n parents w u)
+    unfolding isBelowIn
+    split-in zero t u l h = absurd (false≢true h)
+    split-in (suc n) t zero l h = absurd (root-below-none (suc n) t h)
+    split-in (suc n) t (suc k) l h = ⊎-elim inl (λ a. inr (go (split-in n t p there a))) (or-cases (isChild parents t (suc k)) _ h)
+      where
+        p : ℕ
+        p = parentIn parents (suc k)
+
+        there : p ≤ length parents
+        there = omega (arith, parent-lower (suc k) (omega arith) l)
+
+        go : (isChild parents t p ≡ true) ⊎ ByChild parents t (λ w. isBelowIn n parents w p) → ByChild parents t (λ w. isBelowIn (suc n) parents w (suc k))
+        go (inl e) = (p, there, e, or-first _ _ (child-of-parent (suc k) (omega arith)))
+        go (inr (w, m, e, b)) = (w, m, e, or-second (isChild parents w (suc k)) _ b)
+
+    -- ---- where a step looks
+    module _ (t u : ℕ) (within : u ≤ length parents) where
+      -- a step of either axis looks at the children
+      pub reaches-child : (x : Axis) → isChild parents t u ≡ true → reaches x parents t u ≡ true
+      unfolding reaches
+      reaches-child near e = e
+      reaches-child far e = is-below 1 t u within (below-of-child 0 t u e)
+
+      -- a far step looks at what is strictly below a child
+      pub reaches-join : (w : ℕ) → isChild parents t w ≡ true → reaches far parents w u ≡ true → reaches far parents t u ≡ true
+      unfolding reaches isBelow
+      reaches-join w c h = is-below (suc (length parents)) t u within (below-child (length parents) t w u c h)
+
+      -- and at nothing else
+      pub reaches-split : reaches far parents t u ≡ true → (isChild parents t u ≡ true) ⊎ ByChild parents t (λ w. reaches far parents w u)
+      unfolding reaches isBelow
+      reaches-split h = split-in (length parents) t u within h

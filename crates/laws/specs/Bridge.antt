@@ -1,5 +1,5 @@
 -- The bridge between forests and numbered steps: the steps of a forest, as they are written, are that forest again.
-use Prim.Native.Nat.{ℕ, suc, _+_, _≤_, _<_}
+use Prim.Native.Nat.{ℕ, zero, suc, _+_, _≤_, _<_}
 use mathlib.Core.Path.{_≡_, refl, sym, ap, _∙_}
 use mathlib.Core.List.{List, [], _∷_, _++_, append-assoc, append-nil}
 use native.Mathlib.Omega.{arith}
@@ -28,6 +28,19 @@ pub axis-written : (a : Axis) → axisOf (axisNumber a) ≡ a
 unfolding axisOf axisNumber
 axis-written near = refl
 axis-written far = refl
+
+-- an axis that was read is written again
+pub axis-read : (x : ℕ) → x ≤ 1 → axisNumber (axisOf x) ≡ x
+unfolding axisNumber axisOf
+axis-read zero h = refl
+axis-read (suc zero) h = refl
+axis-read (suc (suc x)) h = absurd (omega arith)
+
+-- an axis is written as 0 or 1
+pub axis-low : (a : Axis) → axisNumber a ≤ 1
+unfolding axisNumber
+axis-low near = omega arith
+axis-low far = omega arith
 
 -- the first step is a child of p, and the others after it
 pub first-child : (p k : ℕ) (s : Step) (ss : List Step) → s .parent ≡ p

@@ -8,15 +8,16 @@ use native.Mathlib.Omega.{arith}
 use native.Mathlib.Nat.{eq-or-lt-of-le}
 use borrow.Author.Tests.{le-leb, lt-leb}
 use lib.Dec.{leb}
-use lib.ListN.{length, length-map, List·getD-map}
+use lib.ListN.{length}
 use Rattle.base.specs.Bools.{and-first, and-second, and-both, not-true, not-both, true-or-false}
 use Rattle.base.specs.Choice.{pick}
-use Rattle.meaning.specs.Forest.{Axis, near, axisOf, Forest, none, step, forest, parentIn, isChild, reaches}
+use Rattle.meaning.specs.Forest.{Axis, near, axisOf, Forest, none, step, forest, isChild, reaches}
 use Rattle.meaning.specs.Covering.{stepAt, stepParents, LiesWell, Laying, mayLie, finds, fitsAt, lays}
 use Rattle.meaning.specs.declared.Step.{Step}
 use Rattle.laws.specs.Rising.{Rising}
-use Rattle.laws.specs.Below.{parent-of-child, child-of-parent, parent-lower}
-use Rattle.laws.specs.Places.{childrenOf, children-of-root, passesAt, Spot, finds-spot, spot-found}
+use Rattle.laws.specs.Below.{child-of-parent}
+use Rattle.laws.specs.Children.{childrenOf, children-of-root, parent-is, is-child, parent-before}
+use Rattle.laws.specs.Places.{passesAt, Spot, finds-spot, spot-found}
 
 -- ---- the child steps of a step are laid exactly if each of them finds a place
 
@@ -41,21 +42,6 @@ abbrev FindsPlace : List Step → Forest → ℕ → Type 0
 FindsPlace a c k = finds (axisOf (stepAt a k .axis)) (fitsAt (axisOf (stepAt a k .axis)) (stepAt a k .label) (lays (childrenOf a k))) c ≡ true
 
 module _ (a : List Step) (rises : Rising (stepParents a)) where
-  -- a parent is listed for each step
-  parents-length : length (stepParents a) ≡ length a
-  unfolding stepParents
-  parents-length = length-map a (λ (s : Step). s .parent)
-
-  -- it is the step's
-  parent-is : (k : ℕ) → parentIn (stepParents a) k ≡ stepAt a k .parent
-  unfolding parentIn stepParents stepAt
-  parent-is zero = refl
-  parent-is (suc k) = List·getD-map (λ (s : Step). s .parent) a k (record { parent = 0; axis = 0; label = 0 })
-
-  -- the parent of a step has a lower number
-  parent-before : (k : ℕ) → 1 ≤ k → k ≤ length a → stepAt a k .parent < k
-  parent-before k o l = omega (arith, parent-is k, parents-length, parent-lower (stepParents a) rises k o (omega (arith, parents-length)))
-
   -- if the child steps of a step are laid in c, each of them finds a place there
   child-finds : (c : Forest) (k : ℕ) → 1 ≤ k → k ≤ length a → lays (childrenOf a (stepAt a k .parent)) c ≡ true → FindsPlace a c k
   unfolding misses passesAt reaches
@@ -65,7 +51,7 @@ module _ (a : List Step) (rises : Rising (stepParents a)) where
       p = stepAt a k .parent
 
       own : isChild (stepParents a) p k ≡ true
-      own = rw (parent-is k) at (child-of-parent (stepParents a) k o)
+      own = rw (parent-is a k) at (child-of-parent (stepParents a) k o)
 
       missed : passesAt a (misses c) k ≡ true → ⊥
       missed e =
@@ -81,8 +67,8 @@ module _ (a : List Step) (rises : Rising (stepParents a)) where
     where
       found : Spot a (misses c) near t → ⊥
       found s =
-          let e : stepAt a (s .number) .parent ≡ t = sym (parent-is (s .number)) ∙ parent-of-child (stepParents a) t (s .number) (s .within) in
-          let b : t < s .number = omega (arith, parent-before (s .number) (s .there .0) (s .there .1)) in
+          let e = is-child a t (s .number) (s .within) in
+          let b : t < s .number = omega (arith, parent-before a rises (s .number) (s .there .0) (s .there .1)) in
           true≢false (sym (s .passed) ∙ ap not (h (s .number) (s .there .0) (s .there .1) b e))
 
 -- ---- where there is a laying the check says yes

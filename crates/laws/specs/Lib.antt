@@ -3,7 +3,11 @@
 -- numbered steps and nodes, and the forests that they are
 pub mod Rising
 pub mod Bridge
+pub mod Outside
+pub mod Blocks
+pub mod WrittenRising
 pub mod Below
+pub mod Children
 pub mod Places
 -- laying, and satisfying as laying
 pub mod Laying

@@ -7,9 +7,8 @@ use lib.ListN.{length}
 use lib.Pow.{pow-mono}
 use native.Mathlib.Nat.{lt-of-lt-of-le}
 use Rattle.meaning.specs.Reader.{read, go-on, _>>=_, _>>_, give, unless, numberOf}
-use Rattle.meaning.specs.Sections.{Sheet, sheet, table}
+use Rattle.meaning.specs.Sections.{Sheet, sheet}
 use Rattle.meaning.specs.Building.{build}
-use Rattle.meaning.specs.Fair.{fair}
 use Rattle.meaning.specs.Written.{tableBytes}
 use Rattle.meaning.specs.Calls.{judged, fairTable, tableNumber}
 use Rattle.laws.specs.Fairness.{build-fair}

@@ -3,63 +3,27 @@ use Prim.Native.Nat.{ℕ, zero, suc, _+_, _-_, _≤_, _<_}
 use mathlib.Core.Path.{_≡_, refl, sym, ap, _∙_}
 use mathlib.Core.Logic.{_⊎_, inl, inr, ⊎-elim}
 use mathlib.Core.Bool.{Bool, true, false, _||_, false≢true, or-assoc}
-use mathlib.Core.List.{List, _∷_}
+use mathlib.Core.List.{List}
 use native.Mathlib.Omega.{arith}
 use native.Mathlib.Nat.{eq-or-lt-of-le}
-use borrow.Author.Tests.{eqb-true, eqb-false}
-use lib.ListN.{length, getD, drop, drop-of-length-le, length-map, List·getD-map}
-use lib.Seq.{drop-cons}
+use borrow.Author.Tests.{eqb-false}
+use lib.ListN.{length}
 use Rattle.base.specs.Bools.{or-cases, or-first, or-second}
-use Rattle.meaning.specs.Forest.{Axis, near, far, axisOf, Forest, none, step, childrenIn, forest, parentIn, isChild, isBelowIn, isBelow, reaches}
+use Rattle.meaning.specs.Forest.{Axis, near, far, axisOf, Forest, parentIn, isChild, isBelowIn, isBelow, reaches}
 use Rattle.meaning.specs.Covering.{stepAt, stepParents, finds}
 use Rattle.meaning.specs.declared.Step.{Step}
 use Rattle.laws.specs.Rising.{Rising}
-use Rattle.laws.specs.Bridge.{first-child, no-child}
-use Rattle.laws.specs.Below.{root-below-none, parent-of-child, child-of-parent, below-of-child, below-child, parent-lower, is-below}
-
--- the child steps of step t among those after the first k
-unfoldable pub childrenFrom : List Step → ℕ → ℕ → Forest
-childrenFrom ss t k = childrenIn t (suc k) (drop k ss)
-
--- the child steps of step t
-unfoldable pub childrenOf : List Step → ℕ → Forest
-childrenOf ss t = childrenFrom ss t t
+use Rattle.laws.specs.Children.{childrenFrom, childrenOf, child-first, other-first, none-first, parents-length, parent-is, is-child}
+use Rattle.laws.specs.Below.{root-below-none, child-of-parent, parent-lower, child-above, reaches-child, reaches-join}
 
 -- what is asked of a place, asked of step u
 unfoldable pub passesAt : List Step → (Axis → ℕ → Forest → Bool) → ℕ → Bool
 passesAt ss passes u = passes (axisOf (stepAt ss u .axis)) (stepAt ss u .label) (childrenOf ss u)
 
--- below the root is the whole forest
-pub children-of-root : (ss : List Step) → childrenOf ss 0 ≡ forest ss
-unfolding childrenOf childrenFrom forest
-children-of-root ss = refl
-
-module _ (ss : List Step) where
-  -- parents are listed from 0, and steps numbered from 1
-  parent-at : (k : ℕ) → getD (stepParents ss) k 0 ≡ stepAt ss (suc k) .parent
-  unfolding stepParents stepAt
-  parent-at k = List·getD-map (λ (s : Step). s .parent) ss k (record { parent = 0; axis = 0; label = 0 })
-
-  -- what stands after the first k begins with step k + 1
-  goes-on : (t k : ℕ) → k < length ss → childrenFrom ss t k ≡ childrenIn t (suc k) (stepAt ss (suc k) ∷ drop (suc k) ss)
-  unfolding childrenFrom stepAt
-  goes-on t k h = ap (childrenIn t (suc k)) (drop-cons ss k _ h)
-
-  -- step k + 1 is a child of t, and stands first
-  here-child : (t k : ℕ) → k < length ss → isChild (stepParents ss) t (suc k) ≡ true
-      → childrenFrom ss t k ≡ step (axisOf (stepAt ss (suc k) .axis)) (stepAt ss (suc k) .label) (childrenOf ss (suc k)) (childrenFrom ss t (suc k))
-  unfolding childrenFrom childrenOf isChild
-  here-child t k h e = goes-on t k h ∙ first-child t (suc k) _ _ (sym (parent-at k) ∙ eqb-true _ _ e)
-
-  -- step k + 1 is no child of t
-  here-other : (t k : ℕ) → k < length ss → isChild (stepParents ss) t (suc k) ≡ false → childrenFrom ss t k ≡ childrenFrom ss t (suc k)
-  unfolding childrenFrom isChild
-  here-other t k h e = goes-on t k h ∙ no-child t (suc k) _ _ (λ z. eqb-false _ _ e (parent-at k ∙ z))
-
-  -- none is left
-  here-end : (t k : ℕ) → length ss ≤ k → childrenFrom ss t k ≡ none
-  unfolding childrenFrom childrenIn
-  here-end t k h = rw (drop-of-length-le ss h)
+-- step k + 1, where it is no child of t
+not-child : (ss : List Step) (t k : ℕ) → isChild (stepParents ss) t (suc k) ≡ false → stepAt ss (suc k) .parent ≡ t → ⊥
+unfolding isChild parentIn
+not-child ss t k e h = eqb-false _ _ e (parent-is ss (suc k) ∙ h)
 
 -- ---- what is found
 
@@ -79,16 +43,16 @@ module _ (ss : List Step) (passes : Axis → ℕ → Forest → Bool) where
   -- nothing is found where no step is left
   finds-end : (x : Axis) (t k : ℕ) → length ss ≤ k → finds x passes (childrenFrom ss t k) ≡ false
   unfolding finds
-  finds-end near t k h = ap (finds near passes) (here-end ss t k h)
-  finds-end far t k h = ap (finds far passes) (here-end ss t k h)
+  finds-end near t k h = ap (finds near passes) (none-first ss t k h)
+  finds-end far t k h = ap (finds far passes) (none-first ss t k h)
 
   -- where step k + 1 is a child of t, it is hit or a later one is found
   finds-here : (x : Axis) (t k : ℕ) → k < length ss → isChild (stepParents ss) t (suc k) ≡ true
       → finds x passes (childrenFrom ss t k) ≡ (hits ss passes x (suc k) || finds x passes (childrenFrom ss t (suc k)))
   unfolding finds hits passesAt
-  finds-here near t k h e = ap (finds near passes) (here-child ss t k h e)
+  finds-here near t k h e = ap (finds near passes) (child-first ss t k h (is-child ss t (suc k) e))
   finds-here far t k h e =
-      ap (finds far passes) (here-child ss t k h e)
+      ap (finds far passes) (child-first ss t k h (is-child ss t (suc k) e))
       ∙ sym (or-assoc (passesAt ss passes (suc k)) (finds far passes (childrenOf ss (suc k))) (finds far passes (childrenFrom ss t (suc k))))
 
   module _ (x : Axis) where
@@ -108,7 +72,7 @@ module _ (ss : List Step) (passes : Axis → ℕ → Forest → Bool) where
         go true e later =
             ⊎-elim (λ p. (suc k, omega arith, omega arith, e, p)) (λ p. wider (later p))
             (or-cases (hits ss passes x (suc k)) _ (sym (finds-here x t k (omega arith) e) ∙ h))
-        go false e later = wider (later (ap (finds x passes) (sym (here-other ss t k (omega arith) e)) ∙ h))
+        go false e later = wider (later (ap (finds x passes) (sym (other-first ss t k (omega arith) (not-child ss t k e))) ∙ h))
 
     -- a child of t after the first k that is hit is found below t
     hit-child : (m k t u : ℕ) → k + m ≡ length ss → k < u → u ≤ length ss → isChild (stepParents ss) t u ≡ true → hits ss passes x u ≡ true
@@ -120,32 +84,26 @@ module _ (ss : List Step) (passes : Axis → ℕ → Forest → Bool) where
         go true e (inl q) later = finds-here x t k (omega arith) e ∙ or-first (hits ss passes x (suc k)) _ (rw q h)
         go true e (inr q) later = finds-here x t k (omega arith) e ∙ or-second (hits ss passes x (suc k)) _ (later q)
         go false e (inl q) later = absurd (false≢true (sym e ∙ rw q c))
-        go false e (inr q) later = ap (finds x passes) (here-other ss t k (omega arith) e) ∙ later q
+        go false e (inr q) later = ap (finds x passes) (other-first ss t k (omega arith) (not-child ss t k e)) ∙ later q
 
 module _ (ss : List Step) (rises : Rising (stepParents ss)) (passes : Axis → ℕ → Forest → Bool) where
-  -- one parent a step
-  parents-length : length (stepParents ss) ≡ length ss
-  unfolding stepParents
-  parents-length = length-map ss (λ (s : Step). s .parent)
-
   -- a spot below a child of t is one below t
   spot-higher : (t w : ℕ) → isChild (stepParents ss) t w ≡ true → Spot ss passes far w → Spot ss passes far t
-  unfolding reaches isBelow
   spot-higher t w c p =
       record {
         number = p .number;
         there = p .there;
-        within = is-below (stepParents ss) rises (suc (length (stepParents ss))) t (p .number) (omega (arith, parents-length)) (below-child (stepParents ss) (length (stepParents ss)) t w (p .number) c (p .within));
+        within = reaches-join (stepParents ss) rises t (p .number) (omega (arith, p .there, parents-length ss)) w c (p .within);
         passed = p .passed;
       }
 
   -- a child of t that is hit gives a spot below t
   spot-of-hit : (t u : ℕ) → 1 ≤ u → u ≤ length ss → isChild (stepParents ss) t u ≡ true → hits ss passes far u ≡ true
       → (finds far passes (childrenOf ss u) ≡ true → Spot ss passes far u) → Spot ss passes far t
-  unfolding hits reaches
+  unfolding hits
   spot-of-hit t u a b c h deeper =
       ⊎-elim
-      (λ e. record { number = u; there = (a, b); within = is-below (stepParents ss) rises 1 t u (omega (arith, parents-length)) (below-of-child (stepParents ss) 0 t u c); passed = e })
+      (λ e. record { number = u; there = (a, b); within = reaches-child (stepParents ss) rises t u (omega (arith, parents-length ss)) far c; passed = e })
       (λ e. spot-higher t u c (deeper e))
       (or-cases (passesAt ss passes u) _ h)
 
@@ -169,7 +127,7 @@ module _ (ss : List Step) (rises : Rising (stepParents ss)) (passes : Axis → �
   found : (x : Axis) (t u : ℕ) → 1 ≤ u → u ≤ length ss → isChild (stepParents ss) t u ≡ true → hits ss passes x u ≡ true → finds x passes (childrenOf ss t) ≡ true
   unfolding childrenOf
   found x t u a b c h =
-      let low : t < u = rw (parent-of-child (stepParents ss) t u c) at (parent-lower (stepParents ss) rises u a (omega (arith, parents-length))) in
+      let low = child-above (stepParents ss) rises t u (omega (arith, parents-length ss)) c in
       hit-child ss passes x (length ss - t) t t u (omega arith) low b c h
 
   -- so is one further down
@@ -180,7 +138,7 @@ module _ (ss : List Step) (rises : Rising (stepParents ss)) (passes : Axis → �
   found-below (suc n) t (suc k) b h q =
       let parents = stepParents ss in
       let p = parentIn parents (suc k) in
-      let lower : p < suc k = parent-lower parents rises (suc k) (omega arith) (omega (arith, parents-length)) in
+      let lower : p < suc k = parent-lower parents rises (suc k) (omega arith) (omega (arith, parents-length ss)) in
       let below-parent : finds far passes (childrenOf ss p) ≡ true = found far p (suc k) (omega arith) b (child-of-parent parents (suc k) (omega arith)) q in
       ⊎-elim
       (λ c. found far t (suc k) (omega arith) b c q)

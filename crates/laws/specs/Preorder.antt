@@ -11,11 +11,11 @@ use borrow.Author.Tests.{eqb-true, eqb-false}
 use lib.Dec.{eqb}
 use lib.ListN.{length, getD}
 use Rattle.base.specs.Choice.{pick}
-use Rattle.meaning.specs.Forest.{axisOf, axisNumber, none, size, childrenIn, forest, stepsFrom, stepsOf}
+use Rattle.meaning.specs.Forest.{none, size, childrenIn, forest, stepsFrom, stepsOf}
 use Rattle.meaning.specs.Sections.{upFrom}
 use Rattle.meaning.specs.Covering.{stepParents}
 use Rattle.meaning.specs.declared.Step.{Step}
-use Rattle.laws.specs.Bridge.{first-child, no-child}
+use Rattle.laws.specs.Bridge.{axis-read, first-child, no-child}
 
 -- each step, from number k on, hangs on the path upwards from the one before it; its axis is 0 or 1
 abbrev pub Hanging : ℕ → List ℕ → List Step → Type 0
@@ -133,13 +133,6 @@ spelled-up b k (p ∷ path) s ss l f m h = go (eqb p (s .parent)) refl h (spelle
         let bare : childrenIn p k (s ∷ ss) ≡ none = no-child p k s ss other ∙ none-hangs p (suc k) (k ∷ higher) ss hangs (omega arith) off in
         rw (bare, add-zero)
         (later (⊎-elim (λ z. absurd (other z)) (λ t. t) (List·Memᴰ·cases-cons m)) hangs)
-
--- an axis that was read is written again
-axis-read : (x : ℕ) → x ≤ 1 → axisNumber (axisOf x) ≡ x
-unfolding axisNumber axisOf
-axis-read zero h = refl
-axis-read (suc zero) h = refl
-axis-read (suc (suc x)) h = absurd (omega arith)
 
 -- a step that hangs on the path's lowest step comes first, then what hangs on it
 spelled-first : (k : ℕ) (above : List ℕ) (s : Step) (ss : List Step) → s .axis ≤ 1 → (List·Memᴰ (s .parent) above → ⊥)

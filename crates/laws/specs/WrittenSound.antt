@@ -1,7 +1,7 @@
 -- The written steps of a forest are sound, where its labels are known and at most one root step is near.
 use Prim.Native.Nat.{ℕ, suc, _+_, _≤_, _<_}
 use mathlib.Core.Path.{_≡_, refl, sym, ap, _∙_, subst}
-use mathlib.Core.Bool.{Bool, true, false, _||_, or-comm, or-assoc, or-false, true≢false, false≢true}
+use mathlib.Core.Bool.{Bool, true, false, _||_, or-false, true≢false, false≢true}
 use mathlib.Core.List.{List, [], _∷_, _++_, append-assoc, List·Memᴰ, List·Memᴰ·head, List·Memᴰ·not-nil, tail-eq-of-cons-eq}
 use native.Mathlib.Omega.{arith}
 use borrow.Author.Tests.{eqb-true, eqb-false, eq-eqb, ne-eqb, le-leb}
@@ -10,10 +10,11 @@ use lib.ListN.{length, length-append}
 use Rattle.base.specs.Apart.{is-false, apart-of}
 use Rattle.base.specs.Choice.{pick}
 use Rattle.base.specs.Lists.{some}
-use Rattle.base.specs.ListLaws.{some-of}
-use Rattle.meaning.specs.Forest.{Axis, near, far, axisNumber, Forest, none, step, size, stepsFrom, stepsOf}
+use Rattle.base.specs.ListLaws.{some-append, some-of}
+use Rattle.meaning.specs.Forest.{near, far, axisNumber, Forest, none, step, size, stepsFrom, stepsOf}
 use Rattle.meaning.specs.Sections.{upFrom, pathAfter, mayHang, nearRoot, isNearRoot}
 use Rattle.meaning.specs.declared.Step.{Step}
+use Rattle.laws.specs.Bridge.{axis-low}
 use Rattle.laws.specs.Preorder.{Falling, falling-below, next-falling, up-member}
 use Rattle.laws.specs.Sound.{SoundSteps}
 use Rattle.laws.specs.Judged.{path-after}
@@ -32,8 +33,7 @@ SoundFrom known k path seen (s ∷ ss) =
 -- one step more was looked at
 pub some-last : (before : List Step) (s : Step) → some isNearRoot (before ++ (s ∷ [])) ≡ (some isNearRoot before || isNearRoot s)
 unfolding some
-some-last [] s = or-comm (isNearRoot s) false
-some-last (r ∷ before) s = ap (λ (b : Bool). isNearRoot r || b) (some-last before s) ∙ sym (or-assoc (isNearRoot r) (some isNearRoot before) (isNearRoot s))
+some-last before s = some-append isNearRoot before (s ∷ []) ∙ ap (λ (b : Bool). some isNearRoot before || b) (or-false (isNearRoot s))
 
 -- it is enough
 sound-enough : (known : ℕ) (before ss : List Step) → SoundFrom known (suc (length before)) (pathAfter 1 (0 ∷ []) before) (some isNearRoot before) ss → SoundSteps known before ss
@@ -91,12 +91,6 @@ module _ (known : ℕ) where
   deep-step : (p : ℕ) (s : Step) → s .parent ≡ p → (p ≡ 0 → ⊥) → isNearRoot s ≡ false
   unfolding isNearRoot nearRoot
   deep-step p s e h = rw (ne-eqb (s .parent) 0 (λ z. h (sym e ∙ z)))
-
-  -- an axis is written as 0 or 1
-  axis-low : (a : Axis) → axisNumber a ≤ 1
-  unfolding axisNumber
-  axis-low near = omega arith
-  axis-low far = omega arith
 
   -- below a step p of the path, a forest's steps and what may follow them
   sound-below :

@@ -7,23 +7,21 @@ use mathlib.Core.Bool.{Bool, true, not, _&&_, _||_, false≢true}
 use mathlib.Core.List.{List}
 use native.Mathlib.Omega.{arith}
 use lib.Dec.{eqb, eqb·suc-zero}
-use lib.ListN.{length, drop}
+use lib.ListN.{length}
 use Rattle.base.specs.Bools.{and-first, and-second, and-both, or-cases, or-first, or-second, both-ways}
 use Rattle.base.specs.Lists.{some, numbersFrom}
 use Rattle.base.specs.SomeNumber.{some-number, some-number-of}
-use Rattle.meaning.specs.Forest.{Axis, near, far, axisOf, Forest, childrenIn, isChild, reaches}
+use Rattle.meaning.specs.Forest.{Axis, near, far, axisOf, isChild, reaches}
 use Rattle.meaning.specs.Sections.{Node}
 use Rattle.meaning.specs.Satisfying.{parentsOf, labelIn, fitsBelow, holdBelow}
+use Rattle.meaning.specs.Covering.{stepAt}
 use Rattle.meaning.specs.declared.Step.{Step}
 use Rattle.laws.specs.Rising.{Rising}
+use Rattle.laws.specs.Below.{ByChild, child-above, reaches-child, reaches-join, reaches-split}
+use Rattle.laws.specs.Children.{childrenOf}
 use Rattle.matching.specs.Notes.{Whole, noted, StepNumber}
-use Rattle.matching.specs.Giving.{fits, gives, stepAt}
+use Rattle.matching.specs.Giving.{fits, gives}
 use Rattle.matching.specs.Nodes.{length-parentsOf}
-use Rattle.matching.specs.Below.{ByChild, child-above, reaches-child, reaches-join, reaches-split}
-
--- the child steps of step k
-unfoldable pub kidsOf : List Step → ℕ → Forest
-kidsOf ss k = childrenIn k (suc k) (drop k ss)
 
 -- the axis of step k
 abbrev pub axisAt : List Step → ℕ → Axis
@@ -35,18 +33,18 @@ isFar ss k = not (eqb (stepAt ss k .axis) 0)
 
 -- node w fits step k
 abbrev pub fitsAt : List Node → List Step → ℕ → ℕ → Bool
-fitsAt ns ss k w = fits (stepAt ss k) (labelIn ns w) (holdBelow ns (kidsOf ss k) w)
+fitsAt ns ss k w = fits (stepAt ss k) (labelIn ns w) (holdBelow ns (childrenOf ss k) w)
 
 -- step k holds below node t
 unfoldable pub stepHolds : List Node → List Step → ℕ → ℕ → Bool
 stepHolds ns ss t k =
-    some (fitsBelow ns t (axisAt ss k) (stepAt ss k .label) (holdBelow ns (kidsOf ss k))) (numbersFrom 1 (length ns))
+    some (fitsBelow ns t (axisAt ss k) (stepAt ss k .label) (holdBelow ns (childrenOf ss k))) (numbersFrom 1 (length ns))
 
 -- node w is a child of t and gives step k
 unfoldable pub givenBy : List Node → List Step → ℕ → ℕ → ℕ → Bool
 givenBy ns ss t k w =
     isChild (parentsOf ns) t w
-    && gives (stepAt ss k) (labelIn ns w) (holdBelow ns (kidsOf ss k) w) (stepHolds ns ss w k)
+    && gives (stepAt ss k) (labelIn ns w) (holdBelow ns (childrenOf ss k) w) (stepHolds ns ss w k)
 
 -- some child of t gives step k
 abbrev pub givenBelow : List Node → List Step → ℕ → ℕ → Bool
@@ -79,7 +77,7 @@ module _ (ns : List Node) (ss : List Step) (rising : Rising (parentsOf ns)) wher
   holds-by : (t k : ℕ) → stepHolds ns ss t k ≡ true → (u : ℕ) × HoldsBy t k u
   unfolding stepHolds fitsBelow fits
   holds-by t k h =
-      let (u, low, high, e) = some-number (fitsBelow ns t (axisAt ss k) (stepAt ss k .label) (holdBelow ns (kidsOf ss k))) 1 (length ns) h in
+      let (u, low, high, e) = some-number (fitsBelow ns t (axisAt ss k) (stepAt ss k .label) (holdBelow ns (childrenOf ss k))) 1 (length ns) h in
       let reached = reaches (axisAt ss k) (parentsOf ns) t u in
       let fitting = fitsAt ns ss k u in
       (u, record { low = low; high = omega arith; reached = and-first reached fitting e; fitting = and-second reached fitting e })

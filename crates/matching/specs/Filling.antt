@@ -15,17 +15,19 @@ use Rattle.base.specs.Lists.{some, numbersFrom}
 use Rattle.meaning.specs.Forest.{step, axisOf, childrenIn, forest, parentIn, isChild}
 use Rattle.meaning.specs.Sections.{Node}
 use Rattle.meaning.specs.Satisfying.{parentsOf, labelIn, fitsBelow, holdBelow, satisfies}
+use Rattle.meaning.specs.Covering.{stepAt}
 use Rattle.meaning.specs.declared.Step.{Step}
 use Rattle.laws.specs.Rising.{Rising}
+use Rattle.laws.specs.Children.{childrenFrom, childrenOf}
 use Rattle.matching.specs.Notes.{blank, noted, StepNumber, blank-whole, blank-noted}
-use Rattle.matching.specs.Giving.{kidsHold, stepAt, stepAt-suc, givesAt}
+use Rattle.matching.specs.Giving.{kidsHold, givesAt}
 use Rattle.matching.specs.Going.{Gave}
-use Rattle.matching.specs.Filled.{kidsOf, stepHolds, givenBy, Filled, done-below}
+use Rattle.matching.specs.Filled.{stepHolds, givenBy, Filled, done-below}
 
 module _ (ns : List Node) (ss : List Step) (rising : Rising (parentsOf ns)) (few : length ss ≤ 16) where
   -- every child step of q holds, by what is noted of each, exactly if the forest of these steps holds
   kids-are : (h : ℕ → Bool) (t : ℕ) → ((k : ℕ) → StepNumber k → k ≤ length ss → h k ≡ stepHolds ns ss t k) → (q j : ℕ) (rest : List Step) → drop j ss ≡ rest → kidsHold h q (suc j) rest ≡ holdBelow ns (childrenIn q (suc j) rest) t
-  unfolding kidsHold holdBelow childrenIn pick stepHolds kidsOf
+  unfolding kidsHold holdBelow childrenIn pick stepHolds childrenOf childrenFrom stepAt
   kids-are h t say q j [] e = refl
   kids-are h t say q j (s ∷ rest) e = go (eqb (s .parent) q) (kids-are h t say q (suc j) rest next)
     where
@@ -35,7 +37,7 @@ module _ (ns : List Node) (ss : List Step) (rising : Rising (parentsOf ns)) (few
       this : stepAt ss (suc j) ≡ s
       this =
           let d : Step = record { parent = 0; axis = 0; label = 0 } in
-          stepAt-suc ss j ∙ ap (λ i. getD ss i d) (sym (add-zero j)) ∙ sym (getD-drop j ss 0 d) ∙ ap (λ (xs : List Step). getD xs 0 d) e
+          ap (λ i. getD ss i d) (sym (add-zero j)) ∙ sym (getD-drop j ss 0 d) ∙ ap (λ (xs : List Step). getD xs 0 d) e
 
       here : h (suc j) ≡ some (fitsBelow ns t (axisOf (s .axis)) (s .label) (holdBelow ns (childrenIn (suc j) (suc (suc j)) rest))) (numbersFrom 1 (length ns))
       here =
@@ -61,7 +63,7 @@ module _ (ns : List Node) (ss : List Step) (rising : Rising (parentsOf ns)) (few
 
     -- what the node gives by the notes is what it gives
     gives-it : (t k : ℕ) → StepNumber k → k ≤ length ss → up ≡ parentIn (parentsOf ns) (suc u) → label ≡ labelIn ns (suc u) → (eqb up t && givesAt (noted cells (suc u)) label ss k) ≡ givenBy ns ss t k (suc u)
-    unfolding givesAt givenBy isChild parentIn kidsOf
+    unfolding givesAt givenBy isChild parentIn childrenOf childrenFrom
     gives-it t k m h e n = rw (e, n, kids-are (noted cells (suc u)) (suc u) say k k (drop k ss) refl, say k m h)
 
     pub fill-goes-on : up ≡ parentIn (parentsOf ns) (suc u) → label ≡ labelIn ns (suc u) → Gave cells cells' ss (suc u) up label → Filled ns ss u cells'

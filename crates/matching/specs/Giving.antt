@@ -1,7 +1,6 @@
 -- What a node gives to its parent: for which steps it is to be noted that they hold below the parent.
 use Prim.Native.Nat.{ℕ, suc, _-_, _≤_, _<_}
-use mathlib.Core.Path.{_≡_, ap}
-use native.Mathlib.Omega.{arith}
+use mathlib.Core.Path.{_≡_}
 use mathlib.Core.Bool.{Bool, true, not, _&&_, _||_}
 use mathlib.Core.List.{List, [], _∷_}
 use lib.Dec.{eqb}
@@ -9,6 +8,7 @@ use lib.ListN.{length, getD, drop, set}
 use lib.Seq.{drop-cons}
 use Rattle.base.specs.Choice.{pick}
 use Rattle.meaning.specs.Satisfying.{anyOrSame}
+use Rattle.meaning.specs.Covering.{stepAt}
 use Rattle.meaning.specs.declared.Step.{Step}
 use Rattle.matching.specs.Notes.{Whole, noted, StepNumber, NotedToo}
 
@@ -25,19 +25,10 @@ unfoldable pub kidsHold : (ℕ → Bool) → ℕ → ℕ → List Step → Bool
 kidsHold holds q k [] = true
 kidsHold holds q k (s ∷ ss) = let later = kidsHold holds q (suc k) ss in pick (eqb (s .parent) q) (holds k && later) later
 
--- the step numbered k; steps are numbered from 1
-unfoldable pub stepAt : List Step → ℕ → Step
-stepAt ss k = getD ss (k - 1) (record { parent = 0; axis = 0; label = 0 })
-
--- it stands at the place before its number
-pub stepAt-suc : (ss : List Step) (j : ℕ) → stepAt ss (suc j) ≡ getD ss j (record { parent = 0; axis = 0; label = 0 })
-unfolding stepAt
-stepAt-suc ss j = ap (λ i. getD ss i (record { parent = 0; axis = 0; label = 0 })) (omega arith)
-
 -- what the child steps are from one step earlier on
 pub kids-from : (ss : List Step) (h : ℕ → Bool) (q j : ℕ) → j < length ss → kidsHold h q (suc j) (drop j ss) ≡ pick (eqb (stepAt ss (suc j) .parent) q) (h (suc j) && kidsHold h q (suc (suc j)) (drop (suc j) ss)) (kidsHold h q (suc (suc j)) (drop (suc j) ss))
-unfolding kidsHold
-kids-from ss h q j l = rw (stepAt-suc, drop-cons ss j (record { parent = 0; axis = 0; label = 0 }))
+unfolding kidsHold stepAt
+kids-from ss h q j l = rw (drop-cons ss j (record { parent = 0; axis = 0; label = 0 }) l)
 
 -- a node gives step k of the steps to its parent, by what is noted of each step below the node
 unfoldable pub givesAt : (ℕ → Bool) → ℕ → List Step → ℕ → Bool

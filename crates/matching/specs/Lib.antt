@@ -1,8 +1,6 @@
 pub mod Notes
 pub mod Giving
 pub mod Going
-pub mod Steps
-pub mod Below
 pub mod Filled
 pub mod Filling
 pub mod Nodes

@@ -1,24 +1,20 @@
 -- The body of a pair of steps, and the table that keeps each body once.
 use Prim.Native.Nat.{ℕ, _≤_}
 use mathlib.Core.Path.{_≡_, refl, sym, _∙_, ap}
-use mathlib.Core.Logic.{_⊎_, inl, inr}
 use mathlib.Core.Bool.{Bool, true, false, _&&_}
 use mathlib.Core.List.{List, []}
 use native.Mathlib.Omega.{arith}
-use lib.Dec.{eqb}
 use lib.ListN.{length, getD, set, replicate, length-set, length-replicate, getD-replicate}
-use lib.Seq.{getD-set-same, getD-set-other}
-use borrow.Author.Tests.{eqb-true, eqb-false}
 use Rattle.base.specs.Choice.{pick}
-use Rattle.base.specs.Bools.{true-or-false}
 use Rattle.meaning.specs.Satisfying.{anyOrSame}
 use Rattle.meaning.specs.Covering.{stepAt, lays}
 use Rattle.meaning.specs.Merging.{joined, Building, nothing, Body, commonLabel, bodyOf, meet, meetAt, through}
 use Rattle.meaning.specs.declared.Step.{Step}
 use Rattle.shapes.specs.Shapes.{patternOf, stepsIn}
 use Rattle.shapes.specs.declared.Pattern.{Pattern}
-use Rattle.covering.specs.Questions.{childrenOf, childrenLie, liesAt}
-use Rattle.covering.specs.Notes.{Noted, cellOf}
+use Rattle.laws.specs.Children.{childrenOf}
+use Rattle.covering.specs.Questions.{childrenLie, liesAt}
+use Rattle.covering.specs.Notes.{Noted, cellOf, cell-filled}
 use Rattle.offering.specs.declared.Marked.{Marked}
 use Rattle.offering.specs.Branches.{joined-branches, buildingAt}
 use Rattle.offering.specs.Offers.{buildingOf, Built}
@@ -95,20 +91,8 @@ nothing-known p q = record {
 -- a body that is kept at its pair
 pub body-kept : (p q : Pattern) (memo : List (List ℕ)) (v w : ℕ) (bs : List ℕ) → Remembered p q memo → 1 ≤ v → v ≤ 16 → 1 ≤ w → w ≤ 16
     → Packed bs (bodyFor (stepsIn p) (stepsIn q) v w) → Remembered p q (set memo (cellOf v w) bs)
-unfolding Slot cellOf
+unfolding Slot
 body-kept p q memo v w bs h hv lv hw lw new = record {
   full = length-set memo (cellOf v w) bs ∙ h .full;
-  right = λ x y hx lx hy ly. go x y hx lx hy ly (true-or-false (eqb (cellOf x y) (cellOf v w)));
+  right = cell-filled (λ x y. Slot (bodyFor (stepsIn p) (stepsIn q) x y)) memo v w bs [] (h .full) hv lv hw lw (λ filled. new) (h .right);
 }
-  where
-    go : (x y : ℕ) → 1 ≤ x → x ≤ 16 → 1 ≤ y → y ≤ 16 → (eqb (cellOf x y) (cellOf v w) ≡ true) ⊎ (eqb (cellOf x y) (cellOf v w) ≡ false)
-        → Slot (bodyFor (stepsIn p) (stepsIn q) x y) (getD (set memo (cellOf v w) bs) (cellOf x y) [])
-    go x y hx lx hy ly (inl e) =
-        let same : cellOf x y ≡ cellOf v w = eqb-true (cellOf x y) (cellOf v w) e in
-        let sx : x ≡ v = omega arith in
-        let sy : y ≡ w = omega arith in
-        let put : getD (set memo (cellOf v w) bs) (cellOf x y) [] ≡ bs =
-        ap (λ (i : ℕ). getD (set memo (cellOf v w) bs) i []) same ∙ getD-set-same memo (cellOf v w) bs [] (omega (arith, h .full)) in
-        rw (put, sx, sy) (λ filled. new)
-    go x y hx lx hy ly (inr e) =
-        rw (getD-set-other memo (cellOf v w) (cellOf x y) bs [] (eqb-false (cellOf x y) (cellOf v w) e)) (h .right x y hx lx hy ly)

@@ -7,10 +7,11 @@ use Rattle.meaning.specs.Covering.{covers}
 use Rattle.meaning.specs.Merging.{joined, Building, nothing, through, Merge, mergeWithin, merge}
 use Rattle.shapes.specs.Shapes.{patternOf, stepsIn, SoundPattern}
 use Rattle.shapes.specs.declared.Pattern.{Pattern}
+use Rattle.shapes.specs.Steps.{root-children}
+use Rattle.laws.specs.Children.{childrenOf}
 use Rattle.laws.specs.MergeSize.{merge-first, merge-second}
-use Rattle.covering.specs.Questions.{childrenOf}
 use Rattle.offering.specs.declared.Marked.{Marked}
-use Rattle.offering.specs.Branches.{joined-branches, buildingAt, root-children}
+use Rattle.offering.specs.Branches.{joined-branches, buildingAt}
 use Rattle.offering.specs.Offers.{buildingOf, Built}
 
 -- a value that is a merge

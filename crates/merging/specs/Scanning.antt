@@ -13,12 +13,13 @@ use Rattle.meaning.specs.Forest.{Axis, axisOf, isNear, Forest, none, step, size
 use Rattle.meaning.specs.Covering.{stepAt}
 use Rattle.meaning.specs.Merging.{Building, nothing, meetAt, across, through}
 use Rattle.meaning.specs.declared.Step.{Step}
-use Rattle.shapes.specs.Shapes.{patternOf, stepsIn, SoundPattern}
+use Rattle.shapes.specs.Shapes.{stepsIn, SoundPattern}
 use Rattle.shapes.specs.declared.Pattern.{Pattern}
-use Rattle.covering.specs.Preorder.{Outside, outside-later, afterwards, outside-afterwards, written, steps-split, read-back, axis-back}
-use Rattle.covering.specs.Blocks.{Ends, Block, block-of}
-use Rattle.covering.specs.Questions.{childrenOf}
-use Rattle.covering.specs.Turns.{stepIn, length-steps, step-at, steps-from, steps-end}
+use Rattle.shapes.specs.Steps.{stepIn, step-at, steps-from, steps-end, block-in}
+use Rattle.laws.specs.Bridge.{axis-written}
+use Rattle.laws.specs.Outside.{Outside, outside-later, afterwards, outside-afterwards, written, steps-split, read-back}
+use Rattle.laws.specs.Blocks.{Ends, Block}
+use Rattle.laws.specs.Children.{childrenFrom, childrenOf}
 
 -- what a step with its child steps makes of what is being built; the first says that it is a near child
 abbrev pub Meeting : Type 0
@@ -68,7 +69,7 @@ module _ (pair : Meeting) (w : ℕ) where
       let rest : List Step = stepsFrom k (suc k) kids ++ afterwards p k kids later after in
       let below : childrenIn k (suc k) rest ≡ kids =
       read-back k (suc k) kids (afterwards p k kids later after) (omega arith) (outside-afterwards p k kids later after h o′) in
-      ap (λ (ss : List Step). scanFrom pair w k ss b) (steps-split p k a m kids later after) ∙ rw (le-ltb p w l, axis-back a, below)
+      ap (λ (ss : List Step). scanFrom pair w k ss b) (steps-split p k a m kids later after) ∙ rw (le-ltb p w l, axis-written a, below)
 
   -- a block is walked as its forest is
   block : (p k : ℕ) (f : Forest) (after : List Step) (b : Building) → w ≤ p → p < k → Outside p (k + size f) after
@@ -112,14 +113,14 @@ restWalks pair ss w u b = scanFrom pair w (suc u) (drop u ss) b
 
 module _ (p : Pattern) (sound : SoundPattern p) (pair : Meeting) (w : ℕ) where
   pub walk-starts : (b : Building) → w ≤ p .count → restWalks pair (stepsIn p) w w b ≡ across pair true (childrenOf (stepsIn p) w) b
-  unfolding restWalks childrenOf
-  walk-starts b h = scan-walks pair w (drop w (stepsIn p)) b (block-of w (patternOf p) (stepsIn p) (sound .written) (rw (length-steps p sound) h))
+  unfolding restWalks childrenOf childrenFrom
+  walk-starts b h = scan-walks pair w (drop w (stepsIn p)) b (block-in p sound w h)
 
   module _ (u : ℕ) (b whole : Building) where
     -- a step of the block
     pub walk-step : u < p .count → w ≤ stepIn p u .parent → restWalks pair (stepsIn p) w u b ≡ whole
         → restWalks pair (stepsIn p) w (u + 1) (pair (nearChild w (stepIn p u)) (stepAt (stepsIn p) (u + 1) .label) (childrenOf (stepsIn p) (u + 1)) b) ≡ whole
-    unfolding restWalks scanFrom pick childrenOf
+    unfolding restWalks scanFrom pick childrenOf childrenFrom
     walk-step h l i =
         rw (add-one u, step-at p sound u h) (sym (rw (steps-from p sound u h, le-ltb (stepIn p u .parent) w l)) ∙ i)
 

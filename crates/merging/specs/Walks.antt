@@ -9,8 +9,8 @@ use Rattle.meaning.specs.Merging.{Building, nothing, meet, meetAt, through}
 use Rattle.meaning.specs.declared.Step.{Step}
 use Rattle.shapes.specs.Shapes.{patternOf, stepsIn, SoundPattern}
 use Rattle.shapes.specs.declared.Pattern.{Pattern}
-use Rattle.covering.specs.Questions.{childrenOf}
-use Rattle.covering.specs.Turns.{stepIn}
+use Rattle.shapes.specs.Steps.{stepIn}
+use Rattle.laws.specs.Children.{childrenOf}
 use Rattle.offering.specs.declared.Marked.{Marked}
 use Rattle.offering.specs.Branches.{branchesOf, buildingAt}
 use Rattle.offering.specs.Offers.{buildingOf, Built, bodyIn, IsBody}

@@ -15,7 +15,7 @@ ghost use mathlib.Core.Path.{_≡_};
 ghost use mathlib.Core.Bool.{true, _&&_};
 ghost use Rattle.meaning.specs.Merging.{nothing, commonLabel, through, merge};
 ghost use Rattle.shapes.specs.Shapes.{patternOf, stepsIn, SoundPattern};
-ghost use Rattle.covering.specs.Questions.{childrenOf};
+ghost use Rattle.laws.specs.Children.{childrenOf};
 ghost use Rattle.offering.specs.Offers.{buildingOf, Built, IsBody};
 ghost use Rattle.merging.specs.Scanning.{nearChild};
 ghost use Rattle.merging.specs.Bodies.{bodyFor, bodyAt, Known};

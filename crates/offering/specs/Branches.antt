@@ -1,22 +1,23 @@
 -- A pattern as the list of its root branches: what is kept at a pair, joined.
 use Prim.Native.Nat.{ℕ, suc, _+_}
 use mathlib.Core.Path.{_≡_, refl, sym, _∙_, ap}
-use mathlib.Core.Bool.{Bool, true, false, not, _&&_, _||_}
+use mathlib.Core.Bool.{Bool, true, false, not, and-true, or-false, or-assoc}
 use mathlib.Core.List.{List, [], _∷_, _++_, append-assoc}
 use native.Mathlib.Omega.{arith}
 use lib.ListN.{length}
 use Rattle.base.specs.Choice.{pick}
 use Rattle.base.specs.Lists.{some, keep, total}
-use Rattle.meaning.specs.Forest.{Axis, near, far, Forest, none, step, size, stepsFrom, stepsOf, forest}
+use Rattle.base.specs.ListLaws.{some-same}
+use Rattle.meaning.specs.Forest.{Axis, near, far, Forest, none, step, size, stepsFrom, stepsOf}
 use Rattle.meaning.specs.Covering.{finds, fitsAt, lays, covers}
 use Rattle.meaning.specs.Merging.{Branch, alone, joined, branchSize, laidOn, staysBeside, Building}
 use Rattle.meaning.specs.declared.Step.{Step}
 use Rattle.shapes.specs.Shapes.{patternOf, stepsIn, SoundPattern}
 use Rattle.shapes.specs.declared.Pattern.{Pattern}
-use Rattle.covering.specs.Questions.{childrenOf}
-use Rattle.covering.specs.Turns.{length-steps}
+use Rattle.shapes.specs.Steps.{root-children, count-size}
+use Rattle.shapes.specs.Holding.{Holds, Stands, stands}
+use Rattle.laws.specs.Children.{childrenOf}
 use Rattle.laws.specs.Joining.{joined-size}
-use Rattle.offering.specs.Copying.{Holds, Stands, stands, count-size}
 
 -- the root branches of a forest, in their order
 unfoldable pub branchesOf : Forest → List Branch
@@ -79,17 +80,12 @@ steps-after f g ss n e h =
     let m : suc n ≡ 1 + size f = omega arith in
     rw (← e, m) (sym (steps-beside 0 1 f g))
 
--- the child steps of the root are the pattern
-pub root-children : (c : Pattern) → childrenOf (stepsIn c) 0 ≡ patternOf c
-unfolding patternOf childrenOf forest
-root-children c = refl
-
 -- a pattern's steps put after those of another
 pub copied-beside : (r c t : Pattern) → SoundPattern r → Holds t (stepsIn r ++ stepsFrom 0 (suc (r .count)) (childrenOf (stepsIn c) 0))
     → Stands t (beside (patternOf r) (patternOf c))
 copied-beside r c t sound h =
     let same : stepsIn r ++ stepsFrom 0 (suc (r .count)) (childrenOf (stepsIn c) 0) ≡ stepsOf (beside (patternOf r) (patternOf c)) =
-    rw root-children (steps-after (patternOf r) (patternOf c) (stepsIn r) (r .count) (sound .written) (count-size r sound (length-steps r sound))) in
+    rw root-children (steps-after (patternOf r) (patternOf c) (stepsIn r) (r .count) (sound .written) (count-size r sound)) in
     stands t (beside (patternOf r) (patternOf c)) (record { steps = h .steps ∙ same; number = h .number ∙ ap length same; few = h .few; full = h .full })
 
 -- ---- the candidate and the kept ones
@@ -103,21 +99,6 @@ firstBranch (step a l kids later) = record { axis = a; label = l; kids = kids }
 unfoldable pub buildingAt : Forest → Bool → Building
 buildingAt f clipped = record { kept = branchesOf f; clipped = clipped }
 
--- of three tests it does not matter which two come first
-or-split : (a b c : Bool) → (a || (b || c)) ≡ ((a || b) || c)
-or-split true b c = refl
-or-split false b c = refl
-
--- a test and true
-and-true : (a : Bool) → (a && true) ≡ a
-and-true true = refl
-and-true false = refl
-
--- a test or false
-or-false : (a : Bool) → (a || false) ≡ a
-or-false true = refl
-or-false false = refl
-
 -- a place is found in a forest exactly if it is found in one of its branches
 finds-some : (x : Axis) (passes : Axis → ℕ → Forest → Bool) (f : Forest)
     → some (λ k. finds x passes (alone k)) (branchesOf f) ≡ finds x passes f
@@ -127,13 +108,7 @@ finds-some far passes none = refl
 finds-some near passes (step y m kids later) = rw (or-false (passes y m kids), finds-some near passes later)
 finds-some far passes (step y m kids later) =
     rw (or-false (finds far passes kids), finds-some far passes later)
-    (sym (or-split (passes y m kids) (finds far passes kids) (finds far passes later)))
-
--- tests that agree hold of the same lists
-some-same : (p q : Branch → Bool) (ks : List Branch) → ((k : Branch) → p k ≡ q k) → some p ks ≡ some q ks
-unfolding some
-some-same p q [] h = refl
-some-same p q (k ∷ ks) h = rw (h k, some-same p q ks h)
+    (or-assoc (passes y m kids) (finds far passes kids) (finds far passes later))
 
 -- a candidate can be laid on a kept one exactly if it covers them joined
 pub skipped : (c : Branch) (f : Forest) → some (laidOn c) (branchesOf f) ≡ covers (alone c) f

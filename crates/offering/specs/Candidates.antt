@@ -11,12 +11,12 @@ use Rattle.meaning.specs.Merging.{Branch, alone, Body, offer, meet}
 use Rattle.meaning.specs.declared.Step.{Step}
 use Rattle.shapes.specs.Shapes.{patternOf, stepsIn}
 use Rattle.shapes.specs.declared.Pattern.{Pattern}
+use Rattle.shapes.specs.Steps.{count-size}
+use Rattle.shapes.specs.Holding.{Stands}
+use Rattle.laws.specs.Outside.{Outside, read-back}
+use Rattle.laws.specs.Children.{childrenFrom, childrenOf}
 use Rattle.laws.specs.Offering.{candidateOf}
-use Rattle.covering.specs.Preorder.{Outside, read-back}
-use Rattle.covering.specs.Questions.{childrenOf}
-use Rattle.covering.specs.Turns.{length-steps}
 use Rattle.offering.specs.declared.Marked.{Marked}
-use Rattle.offering.specs.Copying.{Stands, count-size}
 use Rattle.offering.specs.Branches.{firstBranch, buildingAt}
 use Rattle.offering.specs.Offers.{buildingOf, Built, IsBranch, bodyIn, IsBody}
 
@@ -34,7 +34,7 @@ body-of-itself m body h = subst (IsBody m) (sym (body-in m body h)) h
 -- a body has a step
 pub body-count : (m : Marked) (body : Body) → IsBody m body → 1 ≤ m .pattern .count
 unfolding size
-body-count m body h = omega (arith, count-size (m .pattern) (h .stands .sound) (length-steps (m .pattern) (h .stands .sound)), ap size (h .stands .pattern))
+body-count m body h = omega (arith, count-size (m .pattern) (h .stands .sound), ap size (h .stands .pattern))
 
 module _ (l : ℕ) (kids : Forest) where
   -- the first step's label
@@ -44,7 +44,7 @@ module _ (l : ℕ) (kids : Forest) where
 
   -- and what is below it
   first-kids : childrenOf (stepsOf (step near l kids none)) 1 ≡ kids
-  unfolding childrenOf stepsOf stepsFrom Outside
+  unfolding childrenOf childrenFrom stepsOf stepsFrom Outside
   first-kids = read-back 1 2 kids [] (omega arith) tt
 
 -- the first step of a body with what is below it, and another axis

@@ -1,5 +1,5 @@
 -- The steps below a step of a pattern, copied after other steps: they are the same forest, written there.
-use Prim.Native.Nat.{ℕ, zero, suc, _+_, _-_, _≤_, _<_}
+use Prim.Native.Nat.{ℕ, suc, _+_, _-_, _≤_, _<_}
 use mathlib.Core.Path.{_≡_, refl, sym, _∙_, ap}
 use mathlib.Core.Bool.{true}
 use mathlib.Core.List.{List, [], _∷_, _++_, append-assoc, append-nil}
@@ -8,43 +8,14 @@ use lib.Dec.{eqb, ltb}
 use lib.ListN.{length}
 use borrow.Author.Tests.{eq-eqb, ne-eqb, lt-ltb, le-ltb}
 use Rattle.base.specs.Choice.{pick}
-use Rattle.meaning.specs.Forest.{axisOf, axisNumber, Forest, none, step, size, childrenIn, forest, stepsFrom, stepsOf}
+use Rattle.meaning.specs.Forest.{axisOf, axisNumber, Forest, none, step, size, childrenIn, stepsFrom, stepsOf}
 use Rattle.meaning.specs.declared.Step.{Step}
-use Rattle.shapes.specs.Shapes.{patternOf, stepsIn, SoundPattern}
+use Rattle.shapes.specs.Shapes.{stepsIn}
+use Rattle.shapes.specs.Holding.{Holds, Stands, stands}
 use Rattle.shapes.specs.declared.Pattern.{Pattern}
-use Rattle.laws.specs.Bridge.{forest-stepsOf, length-stepsOf}
-use Rattle.covering.specs.Preorder.{written, read-back, steps-split, afterwards}
-use Rattle.covering.specs.Blocks.{Ends, Block}
-
--- a pattern by value that holds these steps
-pub record Holds (p : Pattern) (ss : List Step) : Type 0 where
-  pub steps : stepsIn p ≡ ss
-  pub number : p .count ≡ length ss
-  pub few : p .count ≤ 16
-  pub full : length (p .steps) ≡ 16
-
--- a pattern by value that is well formed, and stands for a forest
-pub record Stands (p : Pattern) (f : Forest) : Type 0 where
-  pub pattern : patternOf p ≡ f
-  pub sound : SoundPattern p
-
--- one that holds the steps of a forest stands for it
-pub stands : (p : Pattern) (f : Forest) → Holds p (stepsOf f) → Stands p f
-unfolding patternOf
-stands p f h =
-    let is : forest (stepsIn p) ≡ f = ap forest (h .steps) ∙ forest-stepsOf f in
-    record { pattern = is; sound = record { few = h .few; full = h .full; written = ap stepsOf is ∙ sym (h .steps) } }
-
--- and has as many steps
-pub count-size : (p : Pattern) → SoundPattern p → length (stepsIn p) ≡ p .count → p .count ≡ size (patternOf p)
-count-size p s h = sym h ∙ ap length (sym (s .written)) ∙ length-stepsOf (patternOf p)
-
--- an axis that was read is written again
-axis-read : (x : ℕ) → x ≤ 1 → axisNumber (axisOf x) ≡ x
-unfolding axisNumber axisOf
-axis-read zero h = refl
-axis-read (suc zero) h = refl
-axis-read (suc (suc x)) h = absurd (omega arith)
+use Rattle.laws.specs.Bridge.{axis-read}
+use Rattle.laws.specs.Outside.{written, read-back, steps-split, afterwards}
+use Rattle.laws.specs.Blocks.{Ends, Block}
 
 -- one step with a forest written below it
 pub one-branch : (r t : Pattern) (axis label : ℕ) (kids : Forest) → axis ≤ 1 → Holds r (record { parent = 0; axis = axis; label = label } ∷ [])

@@ -12,9 +12,9 @@ use Rattle.meaning.specs.Covering.{covers}
 use Rattle.meaning.specs.Merging.{Branch, alone, branchSize, staysBeside, Building, Body, offer}
 use Rattle.shapes.specs.Shapes.{patternOf, SoundPattern}
 use Rattle.shapes.specs.declared.Pattern.{Pattern}
-use Rattle.covering.specs.Turns.{length-steps}
+use Rattle.shapes.specs.Steps.{count-size}
+use Rattle.shapes.specs.Holding.{Stands}
 use Rattle.offering.specs.declared.Marked.{Marked}
-use Rattle.offering.specs.Copying.{Stands, count-size}
 use Rattle.offering.specs.Branches.{branchesOf, branches-size, beside, branches-beside, size-beside, skipped, staying, stay-kept, firstBranch, buildingAt}
 
 -- what is being built: the kept candidates joined, and the mark
@@ -83,8 +83,8 @@ module _ (own : ℕ) (b : Marked) (c : Pattern) (sound : SoundPattern (b .patter
     unfolding IsBranch
     sizes =
         let first : size (staying (alone (firstBranch (patternOf c))) (patternOf (b .pattern))) ≡ stay .count =
-        ap (λ (g : Forest). size (staying g (patternOf (b .pattern)))) (sym (branch .1)) ∙ ap size (sym (stood .pattern)) ∙ sym (count-size stay (stood .sound) (length-steps stay (stood .sound))) in
-        let second : size (alone (firstBranch (patternOf c))) ≡ c .count = ap size (sym (branch .1)) ∙ sym (count-size c (branch .0) (length-steps c (branch .0))) in
+        ap (λ (g : Forest). size (staying g (patternOf (b .pattern)))) (sym (branch .1)) ∙ ap size (sym (stood .pattern)) ∙ sym (count-size stay (stood .sound)) in
+        let second : size (alone (firstBranch (patternOf c))) ≡ c .count = ap size (sym (branch .1)) ∙ sym (count-size c (branch .0)) in
         omega arith
 
     -- it is put
@@ -94,8 +94,8 @@ module _ (own : ℕ) (b : Marked) (c : Pattern) (sound : SoundPattern (b .patter
     puts-it u room t put =
         let g = alone (firstBranch (patternOf c)) in
         let two : t .count ≡ stay .count + c .count =
-        count-size t (put .sound) (length-steps t (put .sound)) ∙ ap size (put .pattern) ∙ size-beside (patternOf stay) (patternOf c)
-        ∙ cc (count-size stay (stood .sound) (length-steps stay (stood .sound)), count-size c (branch .0) (length-steps c (branch .0))) in
+        count-size t (put .sound) ∙ ap size (put .pattern) ∙ size-beside (patternOf stay) (patternOf c)
+        ∙ cc (count-size stay (stood .sound), count-size c (branch .0)) in
         let same : patternOf t ≡ beside (staying g (patternOf (b .pattern))) g =
         put .pattern ∙ ap (λ (h : Forest). beside h (patternOf c)) (stood .pattern) ∙ ap (λ (h : Forest). beside (staying h (patternOf (b .pattern))) h) (branch .1) in
         let n = sizes in

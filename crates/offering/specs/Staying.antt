@@ -9,16 +9,16 @@ use native.Mathlib.Numerals.{add-one}
 use lib.ListN.{length, drop, length-append, length-drop}
 use lib.Seq.{drop-drop, drop-at}
 use Rattle.base.specs.Choice.{pick}
-use Rattle.meaning.specs.Forest.{Axis, near, far, axisOf, axisNumber, Forest, none, step, size, stepsFrom, stepsOf, childrenIn}
+use Rattle.meaning.specs.Forest.{axisOf, axisNumber, Forest, none, step, size, stepsFrom, stepsOf, childrenIn}
 use Rattle.meaning.specs.Covering.{stepAt, covers}
 use Rattle.meaning.specs.declared.Step.{Step}
 use Rattle.shapes.specs.Shapes.{patternOf, stepsIn, SoundPattern}
 use Rattle.shapes.specs.declared.Pattern.{Pattern}
-use Rattle.laws.specs.Bridge.{length-stepsFrom, axis-written}
-use Rattle.covering.specs.Preorder.{read-back, outside-written}
-use Rattle.covering.specs.Questions.{childrenOf}
-use Rattle.covering.specs.Turns.{stepIn, length-steps, step-at, steps-from, steps-end}
-use Rattle.offering.specs.Copying.{Stands, count-size}
+use Rattle.shapes.specs.Steps.{stepIn, length-steps, count-size, step-at, steps-from, steps-end}
+use Rattle.shapes.specs.Holding.{Stands}
+use Rattle.laws.specs.Bridge.{length-stepsFrom, axis-written, axis-low}
+use Rattle.laws.specs.Outside.{read-back, outside-written}
+use Rattle.laws.specs.Children.{childrenFrom, childrenOf}
 use Rattle.offering.specs.Branches.{beside, beside-none, beside-beside, size-beside, staying}
 
 -- the branch that begins at place k of the steps, by its step's number k + 1
@@ -33,15 +33,9 @@ pub record Turn (p : Pattern) (k : ℕ) (rest : Forest) : Type 0 where
   pub within : k + size (branchAt p k) ≤ p .count
   pub next : drop (k + size (branchAt p k)) (stepsIn p) ≡ stepsFrom 0 (suc (k + size (branchAt p k))) later
 
--- an axis is 0 or 1
-small : (a : Axis) → axisNumber a ≤ 1
-unfolding axisNumber
-small near = omega arith
-small far = omega arith
-
 -- every turn begins with a branch
 pub turn : (p : Pattern) → SoundPattern p → (k : ℕ) → k < p .count → (rest : Forest) → drop k (stepsIn p) ≡ stepsFrom 0 (suc k) rest → Turn p k rest
-unfolding stepsFrom size branchAt beside childrenOf
+unfolding stepsFrom size branchAt beside childrenOf childrenFrom
 turn p sound k h none e = absurd (let z : _≡_ {A = List Step} (stepIn p k ∷ drop (suc k) (stepsIn p)) [] = sym (steps-from p sound k h) ∙ e in let y : _≡_ {A = ℕ} 0 1 = cc in omega arith)
 turn p sound k h (step a l kids later) e =
     let ss = stepsIn p in
@@ -66,7 +60,7 @@ turn p sound k h (step a l kids later) e =
     record {
       later = later;
       first = rw (add-one k, axis-is, label-is, kids-are);
-      axis = rw is (small a);
+      axis = rw is (axis-low a);
       within = rw (add-one k, kids-are) (omega (arith, length-steps p sound));
       next = rw (add-one k, kids-are) (rw n3 end);
     }
@@ -103,13 +97,13 @@ module _ (p : Pattern) (sound : SoundPattern p) (c : Forest) where
   pub left-starts : (r : Pattern) → (patternOf r ≡ none) × SoundPattern r → Left p c 0 r
   unfolding size stepsOf beside
   left-starts r h =
-      let none-yet : r .count ≡ 0 = count-size r (h .1) (length-steps r (h .1)) ∙ ap size (h .0) in
+      let none-yet : r .count ≡ 0 = count-size r (h .1) ∙ ap size (h .0) in
       record { rest = patternOf p; begins = sym (sound .written); sound = h .1; few = omega arith; within = omega arith; whole = rw (h .0) }
 
   module _ (k : ℕ) (more : k < p .count) (r b : Pattern) (left : Left p c k r) (is : Stands b (branchAt p k)) where
     -- its size
     size-is : size (branchAt p k) ≡ b .count
-    size-is = sym (count-size b (is .sound) (length-steps b (is .sound)) ∙ ap size (is .pattern))
+    size-is = sym (count-size b (is .sound) ∙ ap size (is .pattern))
 
     -- it has a step, and is within the pattern
     pub branch-fits : (1 ≤ b .count) × (k + b .count ≤ p .count)
@@ -139,8 +133,8 @@ module _ (p : Pattern) (sound : SoundPattern p) (c : Forest) where
         let not-laid : covers (branchAt p k) c ≡ false = rw (is .pattern) at (sym e ∙ un) in
         let n : size (branchAt p k) ≡ b .count = size-is in
         let two : t .count ≡ r .count + b .count =
-        count-size t (put .sound) (length-steps t (put .sound)) ∙ ap size (put .pattern) ∙ size-beside (patternOf r) (patternOf b)
-        ∙ cc (count-size r (left .sound) (length-steps r (left .sound)), count-size b (is .sound) (length-steps b (is .sound))) in
+        count-size t (put .sound) ∙ ap size (put .pattern) ∙ size-beside (patternOf r) (patternOf b)
+        ∙ cc (count-size r (left .sound), count-size b (is .sound)) in
         let put-is : patternOf t ≡ beside (patternOf r) (branchAt p k) = put .pattern ∙ ap (beside (patternOf r)) (is .pattern) in
         record {
           rest = o .later;

@@ -13,8 +13,9 @@ ghost use Rattle.meaning.specs.Forest.{near, far, axisOf, none, step, stepsFrom
 ghost use Rattle.meaning.specs.Covering.{stepAt};
 ghost use Rattle.meaning.specs.Merging.{offer, meet};
 ghost use Rattle.shapes.specs.Shapes.{patternOf, stepsIn, SoundPattern};
-ghost use Rattle.covering.specs.Questions.{childrenOf};
-ghost use Rattle.offering.specs.Copying.{Holds, Stands, movedStep};
+ghost use Rattle.shapes.specs.Holding.{Holds, Stands};
+ghost use Rattle.laws.specs.Children.{childrenOf};
+ghost use Rattle.offering.specs.Copying.{movedStep};
 ghost use Rattle.offering.specs.Branches.{staying, firstBranch};
 ghost use Rattle.offering.specs.Offers.{buildingOf, Built, IsBranch, bodyIn, IsBody};
 

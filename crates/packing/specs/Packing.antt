@@ -15,10 +15,9 @@ use Rattle.meaning.specs.Merging.{Body}
 use Rattle.meaning.specs.declared.Step.{Step}
 use Rattle.shapes.specs.Shapes.{stepsIn, SoundPattern}
 use Rattle.shapes.specs.declared.Pattern.{Pattern}
-use Rattle.covering.specs.Turns.{stepIn, steps-from, steps-end}
+use Rattle.shapes.specs.Steps.{stepIn, steps-from, steps-end}
+use Rattle.shapes.specs.Holding.{Holds, stands, after}
 use Rattle.offering.specs.declared.Marked.{Marked}
-use Rattle.offering.specs.Copying.{Holds, stands}
-use Rattle.offering.specs.Turns.{after}
 use Rattle.offering.specs.Offers.{IsBody}
 
 -- the step at place k, counted from 0

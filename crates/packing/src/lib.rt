@@ -7,7 +7,7 @@ ghost use mathlib.Core.Path.{_≡_};
 ghost use lib.Dec.{eqb};
 ghost use lib.ListN.{getD};
 ghost use Rattle.shapes.specs.Shapes.{SoundPattern};
-ghost use Rattle.offering.specs.Copying.{Holds};
+ghost use Rattle.shapes.specs.Holding.{Holds};
 ghost use Rattle.packing.specs.Packing.{packed, Written};
 
 // A mark as a byte.

@@ -7,7 +7,7 @@ use lib.ListN.{getD}
 use native.Mathlib.Omega.{arith}
 use borrow.Author.Tests.{eq-eqb, ne-eqb}
 use Rattle.base.specs.Choice.{pick}
-use Rattle.base.specs.Standing.{split, none-left}
+use Rattle.base.specs.Loops.{split, none-left}
 use Rattle.reading.specs.Judging.{climbs}
 
 module _ (s : List ℕ) (p q n i c : ℕ) (whole : Bool) where

@@ -1,7 +1,7 @@
 -- A set of subscriptions is made by marking one after the other: its members, its bound, and the delivery set of answers.
 use Prim.Native.Nat.{ℕ, zero, suc, _+_, _*_, _/_, _%_, _^_, _<_}
 use mathlib.Core.Path.{_≡_, refl, sym, ap, _∙_}
-use mathlib.Core.Bool.{Bool, true, false, _&&_, _||_, false≢true, true≢false}
+use mathlib.Core.Bool.{Bool, true, false, _&&_, _||_, or-false, false≢true, true≢false}
 use mathlib.Core.List.{List, [], _∷_, _++_}
 use native.Mathlib.Omega.{arith}
 use native.Mathlib.Nat.{pow-suc}
@@ -34,11 +34,7 @@ mark-left set i said e = pick-false _ _ _ said e refl
 pub member-marked : (set i : ℕ) (said : Bool) (j : ℕ) → isMember (marked set i said) j ≡ (isMember set j || (said && eqb i j))
 unfolding marked pick
 member-marked set i true j = member-or set (2 ^ i) j ∙ ap (λ (b : Bool). isMember set j || b) (member-alone i j)
-member-marked set i false j = go (isMember set j)
-  where
-    go : (b : Bool) → b ≡ (b || false)
-    go true = refl
-    go false = refl
+member-marked set i false j = sym (or-false (isMember set j))
 
 -- it stays within n subscriptions
 pub marked-lt : (n set i : ℕ) (said : Bool) → set < 2 ^ n → i < n → marked set i said < 2 ^ n

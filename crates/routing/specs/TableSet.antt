@@ -1,7 +1,7 @@
 -- The set that the route by a table marks is the table route.
 use Prim.Native.Nat.{ℕ, zero, suc, _+_, _^_, _≤_, _<_}
 use mathlib.Core.Path.{_≡_, refl, sym, ap, _∙_}
-use mathlib.Core.Bool.{Bool, true, false, _&&_, _||_}
+use mathlib.Core.Bool.{Bool, true, false, _&&_, _||_, or-false, or-assoc}
 use mathlib.Core.List.{List, [], _∷_}
 use native.Mathlib.Omega.{arith}
 use native.Mathlib.Nat.{add-zero, zero-add}
@@ -25,16 +25,6 @@ use Rattle.routing.specs.declared.Route.{Route}
 use Rattle.routing.specs.Marks.{marked, member-marked, marked-lt, same-members}
 use Rattle.routing.specs.Tabling.{start, oneMore, memberTried, askMember, askMembers, askEntry, routeBy}
 
--- three alternatives
-or-assoc : (a b c : Bool) → ((a || b) || c) ≡ (a || (b || c))
-or-assoc true b c = refl
-or-assoc false b c = refl
-
--- an alternative that fails
-or-none : (a : Bool) → a ≡ (a || false)
-or-none true = refl
-or-none false = refl
-
 module _ (ns : List Node) (ps : List Forest) where
   abbrev own : ℕ → Bool
   own j = satisfies ns (getD ps j none)
@@ -52,12 +42,12 @@ module _ (ns : List Node) (ps : List Forest) where
     where
       go : (b : Bool) → isMember ((pick b (record { set = marked (r .set) i (own i); tried = r .tried + 1 }) r) .set) j ≡ (isMember (r .set) j || (b && (own i && eqb i j)))
       go true = member-marked (r .set) i (own i) j
-      go false = or-none (isMember (r .set) j)
+      go false = sym (or-false (isMember (r .set) j))
 
   -- after the k members from i on
   members-set : (members k i j : ℕ) (r : Route) → isMember ((foldN (askMember ns ps members) k i r) .set) j ≡ (isMember (r .set) j || some (marks members j) (numbersFrom i k))
   unfolding foldN numbersFrom some
-  members-set members zero i j r = or-none (isMember (r .set) j)
+  members-set members zero i j r = sym (or-false (isMember (r .set) j))
   members-set members (suc k) i j r =
       rw (← (add-one i))
       (members-set members k (i + 1) j (askMember ns ps members i r)
@@ -94,8 +84,8 @@ module _ (ns : List Node) (ps : List Forest) where
       tidy a false s = refl
 
       none-so : (a m s : Bool) → a ≡ (a || ((m && false) && s))
-      none-so a true s = or-none a
-      none-so a false s = or-none a
+      none-so a true s = sym (or-false a)
+      none-so a false s = sym (or-false a)
 
       go : (b : Bool) → isMember ((askMembers ns ps (e .members) (oneMore r)) .set) j ≡ (isMember (r .set) j || (isMember (e .members) j && own j))
           → isMember ((pick b (askMembers ns ps (e .members) (oneMore r)) (oneMore r)) .set) j ≡ (isMember (r .set) j || ((isMember (e .members) j && b) && own j))
@@ -105,7 +95,7 @@ module _ (ns : List Node) (ps : List Forest) where
   -- after entries
   along-set : (es : List Entry) (j : ℕ) (r : Route) → j < length ps → isMember ((foldAlong (askEntry ns ps) es r) .set) j ≡ (isMember (r .set) j || (some (matchesFor ns j) es && own j))
   unfolding foldAlong some
-  along-set [] j r h = or-none (isMember (r .set) j)
+  along-set [] j r h = sym (or-false (isMember (r .set) j))
   along-set (e ∷ es) j r h =
       along-set es j (askEntry ns ps e r) h
       ∙ ap (λ (b : Bool). b || (some (matchesFor ns j) es && own j)) (entry-set e j r h)

@@ -1,1 +1,4 @@
 pub mod Shapes
+pub mod Steps
+pub mod Holding
+pub mod Tables

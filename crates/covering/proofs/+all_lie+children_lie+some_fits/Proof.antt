@@ -6,10 +6,12 @@ use borrow.Author.Needs.{needs}
 use borrow.Author.Tests.{not-true, not-false}
 use borrow.Fn.Kinds.{In, Out}
 use borrow.Fn.PlainCycle.{Measures, is, falls, and}
+use Rattle.laws.specs.Children.{childrenOf}
 use Rattle.shapes.specs.Shapes.{stepsIn}
-use Rattle.covering.specs.Questions.{childrenOf, childrenLie, someFits}
+use Rattle.shapes.specs.Steps.{stepIn, step-number}
+use Rattle.covering.specs.Questions.{childrenLie, someFits}
 use Rattle.covering.specs.Notes.{Noted, cellOf, note-put}
-use Rattle.covering.specs.Turns.{stepIn, step-number, restLie, child-lies, child-doesn't, no-child, all-lay}
+use Rattle.covering.specs.Turns.{restLie, child-lies, child-doesn't, no-child, all-lay}
 use Rattle.covering.specs.Turns.{restFits, search-starts, block-ends, place-fits, children-don't, step-doesn't, steps-done}
 use Rattle.covering.proofs.all_lie.Reads as all-lie
 use Rattle.covering.proofs.all_lie.Kinds as all-lie-kinds

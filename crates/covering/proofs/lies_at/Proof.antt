@@ -2,7 +2,8 @@
 use Prim.Native.Nat.{_-_}
 use native.Mathlib.Omega.{arith}
 use Rattle.shapes.specs.Shapes.{stepsIn}
-use Rattle.covering.specs.Turns.{stepIn, step-number, label-fits, label-doesn't}
+use Rattle.shapes.specs.Steps.{stepIn, step-number}
+use Rattle.covering.specs.Turns.{label-fits, label-doesn't}
 use borrow.Author.Needs.{needs}
 use Rattle.covering.proofs.lies_at.Statement.{statement}
 use Rattle.covering.proofs.lies_at.Tie as tie

@@ -1,13 +1,13 @@
 -- `matching::all_at_top` meets its contract: what is left from step j on gives what all steps give.
 use Prim.Native.Nat.{_+_, _-_, _≤_, _<_}
-use mathlib.Core.Path.{_≡_, refl}
+use mathlib.Core.Path.{_≡_, refl, sym}
 use native.Mathlib.Omega.{arith}
 use borrow.Author.Tests.{not-true, not-false}
 use lib.ListN.{length, drop}
 use Rattle.shapes.specs.Shapes.{stepsIn}
+use Rattle.shapes.specs.Steps.{stepIn, length-steps, step-at}
 use Rattle.matching.specs.Notes.{noted}
 use Rattle.matching.specs.Giving.{kidsHold}
-use Rattle.matching.specs.Steps.{length-stepsIn, step-here}
 use Rattle.matching.specs.Top.{top-goes-on, top-stops, top-ends}
 use Rattle.matching.proofs.all_at_top.Statement.{statement}
 use Rattle.matching.proofs.all_at_top.Tie as tie
@@ -36,29 +36,31 @@ at-top-requires c κs =
     record { full = pre .1; node = omega arith; number = record { low = omega arith; high = omega (arith, pre .0 .few) } }
 
 returns : tie.Need-returns Inv-loop μ-loop
+unfolding stepIn
 returns c =
     let l = c .before .before .before .before in
     let sound = l .before .pre .0 in
-    let there : l .loop .j < length (stepsIn (l .before .args .t2)) = omega (arith, length-stepsIn _ sound) in
-    let here = step-here _ sound (l .loop .j) (l .loop .j + 1) refl (omega arith) in
+    let there : l .loop .j < length (stepsIn (l .before .args .t2)) = omega (arith, length-steps _ sound) in
+    let here = sym (step-at _ sound (l .loop .j) (omega arith)) in
     top-stops (stepsIn _) _ (l .loop .j) _ (l .loop .inv .1) there here (c .before .at-top .ensures) (not-true _ (c .if1 .taken))
 
 add-j : tie.Need-add-j Inv-loop μ-loop
 add-j c = omega (arith, c .before .before .before .before .before .pre .0 .few)
 
 loop-less : tie.Need-loop-less Inv-loop μ-loop
-loop-less c = omega (arith, length-stepsIn _ (c .before .before .before .before .before .pre .0))
+loop-less c = omega (arith, length-steps _ (c .before .before .before .before .before .pre .0))
 
 loop-again : tie.Need-loop-again Inv-loop μ-loop
+unfolding stepIn
 loop-again c =
     let l = c .before .before .before .before in
     let sound = l .before .pre .0 in
-    let there : l .loop .j < length (stepsIn (l .before .args .t2)) = omega (arith, length-stepsIn _ sound) in
-    let here = step-here _ sound (l .loop .j) (l .loop .j + 1) refl (omega arith) in
+    let there : l .loop .j < length (stepsIn (l .before .args .t2)) = omega (arith, length-steps _ sound) in
+    let here = sym (step-at _ sound (l .loop .j) (omega arith)) in
     (omega arith, top-goes-on (stepsIn _) _ (l .loop .j) _ (l .loop .inv .1) there here (c .before .at-top .ensures) (not-false _ (c .if1 .left)))
 
 returns-2 : tie.Need-returns-2 Inv-loop μ-loop
-returns-2 c = top-ends (stepsIn _) _ (c .before .loop .j) _ (c .before .loop .inv .1) (omega (arith, length-stepsIn _ (c .before .before .pre .0)))
+returns-2 c = top-ends (stepsIn _) _ (c .before .loop .j) _ (c .before .loop .inv .1) (omega (arith, length-steps _ (c .before .before .pre .0)))
 
 pub all-at-top-spec : {M : Type 1} → statement M
 all-at-top-spec =

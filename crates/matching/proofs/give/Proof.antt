@@ -1,9 +1,9 @@
 -- `matching::give` meets its contract: the loop goes on from step to step as `Going` says; what is left falls by one.
-use Prim.Native.Nat.{_-_, _≤_}
+use Prim.Native.Nat.{_-_}
 use mathlib.Core.Path.{_≡_, sym}
-use Rattle.matching.specs.Steps.{few-steps, length-stepsIn, step-here, parent-within}
 use native.Mathlib.Omega.{arith}
 use Rattle.shapes.specs.Shapes.{stepsIn}
+use Rattle.shapes.specs.Steps.{stepIn, length-steps, few-steps, step-number, parent-low}
 use Rattle.matching.specs.Going.{Going, goes-on, goes-start, goes-end}
 use Rattle.matching.proofs.give.Statement.{statement}
 use Rattle.matching.proofs.give.Tie as tie
@@ -15,7 +15,7 @@ abbrev μ-loop : tie.MeasureT-loop
 μ-loop cells₀ u up label p lacks₀ k₀ cells lacks k = k
 
 loop-holds : tie.Need-loop-holds Inv-loop μ-loop
-loop-holds c = goes-start _ _ _ _ _ (few-steps _ (c .pre .0)) (sym (length-stepsIn _ (c .pre .0))) (c .pre .1)
+loop-holds c = goes-start _ _ _ _ _ (few-steps _ (c .pre .0)) (sym (length-steps _ (c .pre .0))) (c .pre .1)
 
 sub-s : tie.Need-sub-s Inv-loop μ-loop
 sub-s c = omega arith
@@ -27,16 +27,17 @@ element-copy-out-s : tie.Need-element-copy-out-s Inv-loop μ-loop
 element-copy-out-s c = omega (arith, few-steps _ (c .before .before .pre .0))
 
 weigh-requires : tie.Need-weigh-requires Inv-loop μ-loop
+unfolding stepIn
 weigh-requires c κs =
     let l = c .before .before .before .before in
     let sound = l .before .pre .0 in
-    let low : 1 ≤ l .loop .k = omega arith in
+    let long = length-steps _ sound in
     let high = l .loop .inv .low in
     record {
       full = l .loop .inv .full;
       lacksFull = l .loop .inv .lacksFull;
-      number = record { low = low; high = omega (arith, few-steps _ sound) };
-      parent = rw (step-here _ sound (l .loop .k - 1) (l .loop .k) (omega arith) high) (parent-within _ sound (l .loop .k - 1) (l .loop .k) (omega arith) high);
+      number = record { low = omega arith; high = omega (arith, sound .few) };
+      parent = omega (arith, parent-low _ sound (l .loop .k - 1) (omega arith), sound .few);
       node = l .before .pre .2;
       above = l .before .pre .3;
     }
@@ -48,11 +49,11 @@ loop-less : tie.Need-loop-less Inv-loop μ-loop
 loop-less c = omega arith
 
 loop-again : tie.Need-loop-again Inv-loop μ-loop
+unfolding stepIn
 loop-again c =
     let l = c .before .before .before .before .before in
     let sound = l .before .pre .0 in
-    let low : 1 ≤ l .loop .k = omega arith in
-    let here = step-here _ sound (l .loop .k - 1) (l .loop .k) (omega arith) (l .loop .inv .low) in
+    let here = step-number _ sound (l .loop .k) (omega arith) (omega (arith, length-steps _ sound, l .loop .inv .low)) in
     goes-on _ _ _ _ _ (few-steps _ sound) (l .loop .k - 1) (omega arith) here (l .loop .inv) (c .weigh .ensures)
 
 returns : tie.Need-returns Inv-loop μ-loop

@@ -6,10 +6,10 @@ use borrow.Author.Needs.{needs}
 use Rattle.meaning.specs.Covering.{stepAt}
 use Rattle.meaning.specs.Merging.{Body, nothing, commonLabel, through}
 use Rattle.shapes.specs.Shapes.{patternOf, stepsIn, SoundPattern}
-use Rattle.covering.specs.Questions.{childrenOf}
+use Rattle.shapes.specs.Steps.{stepIn, step-number}
+use Rattle.shapes.specs.Holding.{holds-none}
+use Rattle.laws.specs.Children.{childrenOf}
 use Rattle.covering.specs.Notes.{cellOf}
-use Rattle.covering.specs.Turns.{stepIn, step-number}
-use Rattle.offering.specs.Turns.{holds-none}
 use Rattle.offering.specs.Offers.{buildingOf, IsBody}
 use Rattle.offering.specs.Candidates.{body-of-itself}
 use Rattle.merging.specs.Scanning.{meetAll, restWalks, walk-ends, walk-done}

@@ -4,8 +4,8 @@ use native.Mathlib.Omega.{arith}
 use Rattle.meaning.specs.Covering.{stepAt}
 use Rattle.meaning.specs.declared.Step.{Step}
 use Rattle.shapes.specs.Shapes.{stepsIn}
-use Rattle.covering.specs.Questions.{childrenOf}
-use Rattle.covering.specs.Turns.{stepIn, step-number}
+use Rattle.shapes.specs.Steps.{stepIn, step-number}
+use Rattle.laws.specs.Children.{childrenOf}
 use Rattle.offering.specs.Copying.{one-branch}
 use borrow.Author.Needs.{needs}
 use Rattle.offering.proofs.branch.Statement.{statement}

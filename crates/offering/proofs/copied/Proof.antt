@@ -7,10 +7,11 @@ use lib.ListN.{length}
 use borrow.Author.Needs.{needs}
 use Rattle.meaning.specs.Forest.{stepsFrom}
 use Rattle.shapes.specs.Shapes.{stepsIn, SoundPattern}
-use Rattle.covering.specs.Questions.{childrenOf}
-use Rattle.covering.specs.Turns.{stepIn}
+use Rattle.shapes.specs.Steps.{stepIn, parent-low}
+use Rattle.shapes.specs.Holding.{holding, after, one-more}
+use Rattle.laws.specs.Children.{childrenOf}
 use Rattle.offering.specs.Copying.{movedStep}
-use Rattle.offering.specs.Turns.{withRest, parent-low, copy-starts, copy-step, copy-ends, copy-done, holding, after, one-more}
+use Rattle.offering.specs.Turns.{withRest, copy-starts, copy-step, copy-ends, copy-done}
 use Rattle.offering.proofs.copied.Statement.{statement}
 use Rattle.offering.proofs.copied.Tie as tie
 

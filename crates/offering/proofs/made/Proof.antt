@@ -2,9 +2,9 @@ use mathlib.Core.Path.{_≡_, refl, sym}
 use native.Mathlib.Omega.{arith}
 use Rattle.meaning.specs.Forest.{axisOf}
 use Rattle.shapes.specs.Shapes.{patternOf, stepsIn}
-use Rattle.covering.specs.Questions.{childrenOf}
+use Rattle.shapes.specs.Steps.{root-children}
+use Rattle.laws.specs.Children.{childrenOf}
 use Rattle.offering.specs.Copying.{one-branch}
-use Rattle.offering.specs.Branches.{root-children}
 use borrow.Author.Needs.{needs}
 use Rattle.offering.proofs.made.Statement.{statement}
 use Rattle.offering.proofs.made.Tie as tie

@@ -3,7 +3,7 @@ use native.Mathlib.Omega.{arith}
 use borrow.Author.Needs.{needs}
 use borrow.Author.Tests.{not-true, not-false}
 use Rattle.shapes.specs.Shapes.{patternOf, SoundPattern}
-use Rattle.covering.specs.Turns.{stepIn}
+use Rattle.shapes.specs.Steps.{stepIn}
 use Rattle.offering.specs.Branches.{copied-beside}
 use Rattle.offering.specs.Staying.{branchAt, Left, turn, left-starts, branch-fits, left-goes, left-remains, left-done}
 use Rattle.offering.proofs.stays.Statement.{statement}

@@ -5,7 +5,7 @@ use lib.Dec.{eqb}
 use lib.ListN.{replicate}
 use borrow.Author.Needs.{needs}
 use Rattle.shapes.specs.Shapes.{SoundPattern}
-use Rattle.covering.specs.Turns.{stepIn}
+use Rattle.shapes.specs.Steps.{stepIn}
 use Rattle.packing.specs.Packing.{Written, stepSet, written-starts, written-step}
 use Rattle.packing.proofs.pack.Statement.{statement}
 use Rattle.packing.proofs.pack.Tie as tie

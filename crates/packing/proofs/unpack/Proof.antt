@@ -6,7 +6,7 @@ use native.Mathlib.Omega.{arith}
 use lib.ListN.{length, getD, set}
 use borrow.Author.Needs.{needs}
 use Rattle.shapes.specs.Shapes.{stepsIn}
-use Rattle.offering.specs.Turns.{holds-none, holding, one-more}
+use Rattle.shapes.specs.Holding.{holds-none, holding, one-more}
 use Rattle.packing.specs.Packing.{stepOf, packed, withPacked, unpack-starts, unpack-step, unpack-done}
 use Rattle.packing.proofs.unpack.Statement.{statement}
 use Rattle.packing.proofs.unpack.Tie as tie

@@ -8,7 +8,8 @@ use lib.Seq.{sets, length-sets}
 use Rattle.base.specs.Storing.{partsFrom, left-first, left-same, Turn, turn-room, turn-goes-on, turns-end}
 use Rattle.meaning.specs.Written.{tableBytes}
 use Rattle.shapes.specs.Shapes.{tableOf}
-use Rattle.writing.specs.Bytes.{noEntry, bytesOf, table-bytes, entry-sound, entries-fit}
+use Rattle.shapes.specs.Tables.{noEntry, entries-fit, entry-sound}
+use Rattle.writing.specs.Bytes.{bytesOf, table-bytes}
 use Rattle.writing.proofs.put_table.Statement.{statement}
 use Rattle.writing.proofs.put_table.Tie as tie
 

@@ -7,7 +7,8 @@ use lib.ListN.{length}
 use Rattle.base.specs.Storing.{partsFrom, parts-end}
 use Rattle.meaning.specs.Written.{tableBytes}
 use Rattle.shapes.specs.Shapes.{tableOf}
-use Rattle.writing.specs.Bytes.{noEntry, bytesOf, table-bytes, entry-sound, entries-fit, entries-length}
+use Rattle.shapes.specs.Tables.{noEntry, entries-fit, entry-sound}
+use Rattle.writing.specs.Bytes.{bytesOf, table-bytes, entries-length}
 use Rattle.writing.proofs.table_length.Statement.{statement}
 use Rattle.writing.proofs.table_length.Tie as tie
 

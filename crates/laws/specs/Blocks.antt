@@ -6,7 +6,7 @@ use native.Mathlib.Omega.{arith}
 use lib.ListN.{length, drop}
 use Rattle.meaning.specs.Forest.{Forest, none, step, size, stepsFrom, stepsOf}
 use Rattle.meaning.specs.declared.Step.{Step}
-use Rattle.covering.specs.Preorder.{Outside, outside-later, afterwards, outside-afterwards, steps-split}
+use Rattle.laws.specs.Outside.{Outside, outside-later, afterwards, outside-afterwards, steps-split}
 
 -- nothing follows, or a step whose parent is above w
 unfoldable pub Ends : ℕ → List Step → Type 0
