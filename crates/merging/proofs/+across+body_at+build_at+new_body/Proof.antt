@@ -616,7 +616,7 @@ new-body-lies-at-requires : (t : ℕ) → new-body-lts.Need-lies-at-requires (
 ) (new-body-at t) new-body.Post
 new-body-lies-at-requires t c κs =
     let h = c .before .pre .1 in
-    (h .0 .onto, h .1, h .2, h .3, h .4)
+    search (h .0 .onto, h .0 .from, h .1, h .2, h .3, h .4)
 
 new-body-taken-requires : (t : ℕ) → new-body-lts.Need-taken-requires (
   lies-at-reads.Asked,
@@ -632,7 +632,7 @@ new-body-taken-requires : (t : ℕ) → new-body-lts.Need-taken-requires (
 ) (new-body-at t) new-body.Post
 new-body-taken-requires t c κs =
     let h = c .before .before .before .pre .1 in
-    (h .0 .onto .first, h .1, h .2)
+    search (h .0 .onto .first, h .0 .onto .second, h .1, h .2, h .3, h .4)
 
 new-body-returns : (t : ℕ) → new-body-lts.Need-returns (
   lies-at-reads.Asked,
@@ -669,7 +669,7 @@ new-body-lies-at-requires-2 : (t : ℕ) → new-body-lts.Need-lies-at-requires-2
 ) (new-body-at t) new-body.Post
 new-body-lies-at-requires-2 t c κs =
     let h = c .before .before .before .before .pre .1 in
-    (h .0 .from, h .3, h .4, h .1, h .2)
+    search (h .0 .onto, h .0 .from, h .1, h .2, h .3, h .4)
 
 new-body-taken-requires-2 : (t : ℕ) → new-body-lts.Need-taken-requires-2 (
   lies-at-reads.Asked,
@@ -685,7 +685,7 @@ new-body-taken-requires-2 : (t : ℕ) → new-body-lts.Need-taken-requires-2 (
 ) (new-body-at t) new-body.Post
 new-body-taken-requires-2 t c κs =
     let h = c .before .before .before .before .before .before .pre .1 in
-    (h .0 .onto .second, h .3, h .4)
+    search (h .0 .onto .first, h .0 .onto .second, h .1, h .2, h .3, h .4)
 
 new-body-returns-2 : (t : ℕ) → new-body-lts.Need-returns-2 (
   lies-at-reads.Asked,

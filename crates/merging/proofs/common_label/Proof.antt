@@ -1,3 +1,4 @@
+-- `merging::common_label` meets its contract: the same label, or any.
 use borrow.Author.Tests.{eq-eqb, ne-eqb}
 use Rattle.base.specs.Choice.{pick}
 use Rattle.meaning.specs.Merging.{commonLabel}

@@ -1,3 +1,4 @@
+-- `merging::merge` meets its contract: one covers the other, or it is built at the roots, with the notes of both questions.
 use mathlib.Core.Bool.{true}
 use native.Mathlib.Omega.{arith}
 use Rattle.covering.specs.Notes.{nothing-noted}
@@ -34,8 +35,9 @@ build-at-requires : tie.Need-build-at-requires
 build-at-requires c κs =
     let asked = c .before .before .before .before in
     let first = asked .before .before .before in
-    let s = first .before .before in (
-      record { bodies = nothing-known (s .args .p) (s .args .q); onto = first .covers-noting .ensures .1; from = asked .covers-noting2 .ensures .1 },
+    let onto = first .covers-noting .ensures .1 in
+    let from = asked .covers-noting2 .ensures .1 in (
+      record { bodies = nothing-known _ _; onto = search (onto, from); from = search (onto, from) },
       omega arith,
       omega arith,
       omega arith,

@@ -1,3 +1,4 @@
+-- `merging::near_child` meets its contract: both tests.
 use Rattle.merging.specs.Scanning.{near-if, near-not}
 use borrow.Author.Needs.{needs}
 use Rattle.merging.proofs.near_child.Statement.{statement}

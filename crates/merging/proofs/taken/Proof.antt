@@ -1,3 +1,4 @@
+-- `merging::taken` meets its contract: the branch is the body, and nothing was left out.
 use mathlib.Core.Path.{refl}
 use Rattle.meaning.specs.Forest.{axisOf}
 use Rattle.merging.specs.Bodies.{bodyAt}

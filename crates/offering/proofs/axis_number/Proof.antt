@@ -1,3 +1,4 @@
+-- `offering::axis_number` meets its contract: the axis of each number.
 use native.Mathlib.Omega.{arith}
 use Rattle.base.specs.Choice.{pick}
 use Rattle.meaning.specs.Forest.{axisOf}

@@ -1,3 +1,4 @@
+-- `offering::branch` meets its contract: one step, and the block below its twin copied after it.
 use Prim.Native.Nat.{_-_}
 use mathlib.Core.Path.{_≡_, sym, ap}
 use native.Mathlib.Omega.{arith}

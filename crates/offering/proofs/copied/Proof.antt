@@ -1,3 +1,4 @@
+-- `offering::copied` meets its contract: after each turn the steps stand there that were passed, and the block is what `childrenOf` reads.
 use Prim.Native.Nat.{suc, _+_, _-_, _≤_}
 use mathlib.Core.Path.{_≡_, refl, _∙_, ap}
 use mathlib.Core.List.{List, [], _++_}

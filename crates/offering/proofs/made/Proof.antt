@@ -1,3 +1,4 @@
+-- `offering::made` meets its contract: one step, and what was built copied below it.
 use mathlib.Core.Path.{_≡_, refl, sym}
 use native.Mathlib.Omega.{arith}
 use Rattle.meaning.specs.Forest.{axisOf}

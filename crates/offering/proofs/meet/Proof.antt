@@ -1,3 +1,4 @@
+-- `offering::meet` meets its contract: the candidate is the body with its axis, and its mark counts.
 use native.Mathlib.Omega.{arith}
 use Rattle.offering.specs.Offers.{bodyIn}
 use Rattle.offering.specs.Candidates.{body-count, candidate, only-branch, met}

@@ -1,3 +1,4 @@
+-- `offering::moved` meets its contract: a child of v hangs on `top`, any other step on its parent moved with it.
 use borrow.Author.Tests.{eq-eqb, ne-eqb}
 use Rattle.base.specs.Choice.{pick}
 use Rattle.offering.specs.Copying.{movedStep}

@@ -1,3 +1,4 @@
+-- `offering::offer` meets its contract: skipped, put last, or left out.
 use native.Mathlib.Omega.{arith}
 use Rattle.offering.specs.Branches.{copied-beside}
 use Rattle.offering.specs.Offers.{IsBranch, skips-it, puts-it, leaves-it}

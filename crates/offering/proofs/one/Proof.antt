@@ -1,3 +1,4 @@
+-- `offering::one` meets its contract: one step is held.
 use native.Mathlib.Omega.{arith}
 use mathlib.Core.Path.{refl}
 use Rattle.shapes.specs.Shapes.{stepsIn}

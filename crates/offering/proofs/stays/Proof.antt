@@ -1,3 +1,4 @@
+-- `offering::stays` meets its contract: after each turn the branches are left that were passed and stay.
 use Prim.Native.Nat.{_-_}
 use native.Mathlib.Omega.{arith}
 use borrow.Author.Needs.{needs}
@@ -47,7 +48,7 @@ add-k c =
     omega (arith, f, l .inv .1 .few)
 
 covers-requires : tie.Need-covers-requires Inv-loop μ-loop
-covers-requires c κs = (c .before .branch .ensures .sound, c .before .before .before .before .loop .inv .2)
+covers-requires c κs = search (c .before .branch .ensures .sound, c .before .before .before .before .loop .inv .2)
 
 copied-requires : tie.Need-copied-requires Inv-loop μ-loop
 unfolding stepIn branchAt

@@ -1,3 +1,4 @@
+-- `packing::pack` meets its contract: after each turn the bytes of the steps that were passed are written.
 use Prim.Native.Nat.{_-_, _≤_}
 use mathlib.Core.Path.{_≡_, refl}
 use native.Mathlib.Omega.{arith}

@@ -1,3 +1,4 @@
+-- `packing::unpack` meets its contract: after each turn the steps that were passed are held.
 use Prim.Native.Nat.{ℕ, _+_, _-_, _≤_}
 use mathlib.Core.Path.{_≡_, refl, sym, _∙_, ap}
 use mathlib.Core.List.{List}
