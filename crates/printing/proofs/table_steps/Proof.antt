@@ -4,7 +4,8 @@ use mathlib.Core.Path.{_≡_}
 use native.Mathlib.Omega.{arith}
 use Rattle.meaning.specs.Building.{stepsTogether}
 use Rattle.shapes.specs.Shapes.{tableOf}
-use Rattle.printing.specs.Tables.{stepsLeft, steps-first, steps-here, steps-end, entry-sound, nothing}
+use Rattle.shapes.specs.Tables.{noEntry, entry-sound}
+use Rattle.printing.specs.Tables.{stepsLeft, steps-first, steps-here, steps-end}
 use Rattle.printing.proofs.table_steps.Statement.{statement}
 use Rattle.printing.proofs.table_steps.Tie as tie
 
@@ -25,7 +26,7 @@ element-copy-out-e c = omega (arith, c .before .before .pre .few)
 
 add-n : tie.Need-add-n Inv-loop μ-loop
 add-n c = let l = c .before .before .before .before in
-    omega (arith, l .before .pre .few, entry-sound _ (l .before .pre) (l .loop .i) nothing (c .before .before .before .loop-test .taken) .few)
+    omega (arith, l .before .pre .few, entry-sound _ (l .before .pre) (l .loop .i) noEntry (c .before .before .before .loop-test .taken) .few)
 
 add-i : tie.Need-add-i Inv-loop μ-loop
 add-i c = omega (arith, c .before .before .before .before .before .pre .few)
@@ -36,7 +37,7 @@ loop-less c = omega arith
 loop-again : tie.Need-loop-again Inv-loop μ-loop
 loop-again c = let l = c .before .before .before .before in
     let here = c .before .before .before .loop-test .taken in
-    (omega (arith, entry-sound _ (l .before .pre) (l .loop .i) nothing here .few), omega (arith, steps-here _ (l .before .pre) (l .loop .i) nothing here))
+    (omega (arith, entry-sound _ (l .before .pre) (l .loop .i) noEntry here .few), omega (arith, steps-here _ (l .before .pre) (l .loop .i) noEntry here))
 
 returns : tie.Need-returns Inv-loop μ-loop
 returns c = omega (arith, steps-end _ (c .before .before .pre) (c .before .loop .i) (c .loop-test .left))
