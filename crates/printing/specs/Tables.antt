@@ -1,20 +1,15 @@
 -- The text of a table, as a loop goes through its entries, and its totals.
 use Prim.Native.Nat.{ℕ, _+_, _≤_, _<_}
-use mathlib.Core.Path.{_≡_, refl, sym, ap, _∙_}
-use mathlib.Core.List.{List, [], _++_, map, flatMap, append-assoc}
-use native.Mathlib.Omega.{arith}
-use native.Mathlib.Numerals.{add-one}
-use lib.ListN.{length, getD, take, drop, drop-of-length-le}
-use lib.Seq.{length-take-le, slice-cons}
-use Rattle.base.specs.Lists.{total}
+use mathlib.Core.Path.{_≡_, sym, _∙_}
+use mathlib.Core.List.{List, [], _++_, flatMap, append-assoc}
+use lib.ListN.{length, getD, take}
 use Rattle.base.specs.Storing.{partsFrom, parts-go-on, parts-end, flatMap-map}
 use Rattle.meaning.specs.Sections.{Sheet}
-use Rattle.meaning.specs.Building.{entrySteps, stepsTogether}
+use Rattle.meaning.specs.Building.{stepsTogether}
 use Rattle.meaning.specs.Building
 use Rattle.meaning.specs.Printing.{ascii, decimal, totalsText, entryText, tableText}
 use Rattle.shapes.specs.Shapes.{entryOf, entriesIn, tableOf, SoundTable}
-use Rattle.shapes.specs.Steps.{count-size}
-use Rattle.shapes.specs.Tables.{entries-fit, length-table, entry-sound}
+use Rattle.shapes.specs.Tables.{entries-fit, length-table}
 use Rattle.shapes.specs.declared.Entry.{Entry}
 use Rattle.shapes.specs.declared.Table.{Table}
 
@@ -74,25 +69,3 @@ module _ (t : Table) (sound : SoundTable t) where
     table-text rounds steps e =
         λ i. (totals-of subscriptions (builtTable t rounds) ∙ λ j. totalsOf subscriptions (length-table t sound j) (sym e j) rounds) i
         ++ flatMap-map (entryText ls subscriptions) entryOf (take (t .count) (t .entries)) i
-
--- ---- the steps together
-
--- the steps of the entries from place i on
-unfoldable pub stepsLeft : Table → ℕ → ℕ
-stepsLeft t i = total entrySteps (map entryOf (drop i (take (t .count) (t .entries))))
-
-module _ (t : Table) (sound : SoundTable t) where
-  pub steps-first : stepsLeft t 0 ≡ stepsTogether (tableOf t)
-  unfolding stepsLeft stepsTogether tableOf entriesIn
-  steps-first = refl
-
-  pub steps-here : (i : ℕ) (d : Entry) → i < t .count → stepsLeft t i ≡ getD (t .entries) i d .pattern .count + stepsLeft t (i + 1)
-  unfolding stepsLeft total entrySteps entryOf
-  steps-here i d h =
-      ap (λ es. total entrySteps (map entryOf es)) (slice-cons i (t .count) (t .entries) d h (entries-fit t sound))
-      ∙ λ j. sym (count-size (getD (t .entries) i d .pattern) (entry-sound t sound i d h)) j + total entrySteps (map entryOf (drop (sym (add-one i) j) (take (t .count) (t .entries))))
-
-  pub steps-end : (i : ℕ) → t .count ≤ i → stepsLeft t i ≡ 0
-  unfolding stepsLeft total
-  steps-end i h =
-      ap (λ es. total entrySteps (map entryOf es)) (drop-of-length-le (take (t .count) (t .entries)) {i = i} (omega (arith, length-take-le (t .count) (t .entries) (entries-fit t sound))))
