@@ -6,12 +6,11 @@ use lib.ListN.{getD}
 use Rattle.meaning.specs.Forest.{Forest}
 use Rattle.meaning.specs.Merging.{merge}
 use Rattle.meaning.specs.Building.{pair, best, bestPair, joinAt, cutLargest, mergeOrCut}
-use Rattle.meaning.specs.Building
 use Rattle.laws.specs.Chosen.{Right, bestPair-right}
 use Rattle.shapes.specs.Shapes.{patternOf, entryOf, tableOf, SoundTable}
+use Rattle.shapes.specs.Tables.{noEntry, length-table, entry-at}
 use Rattle.shapes.specs.declared.Table.{Table}
 use Rattle.building.specs.declared.rounds.Best.{Best}
-use Rattle.settling.specs.Held.{blank, length-table, entry-at}
 use Rattle.building.specs.Finding.{bestIs, found-some, found-none}
 
 -- where no pair was found the definition cuts
@@ -36,7 +35,7 @@ module _ (t : Table) (b : Best) (s : SoundTable t) (e : bestIs b ≡ bestPair (t
       (omega (arith, length-table t s, right .0 .entries .first), omega (arith, length-table t s, right .0 .entries .second))
 
   -- and the definition merges it
-  pub change-merge : (m : Forest) → m ≡ merge (patternOf (getD (t .entries) (b .i) blank .pattern)) (patternOf (getD (t .entries) (b .j) blank .pattern)) .pattern
+  pub change-merge : (m : Forest) → m ≡ merge (patternOf (getD (t .entries) (b .i) noEntry .pattern)) (patternOf (getD (t .entries) (b .j) noEntry .pattern)) .pattern
       → joinAt m (pair (b .i) (b .j)) (tableOf t) ≡ mergeOrCut (bestPair (tableOf t)) (tableOf t)
   unfolding mergeOrCut entryOf pair
-  change-merge m q = rw (found, entry-at t s (b .i) blank (found-there .0), entry-at t s (b .j) blank (found-there .1), q) refl
+  change-merge m q = rw (found, entry-at t s (b .i) noEntry (found-there .0), entry-at t s (b .j) noEntry (found-there .1), q) refl

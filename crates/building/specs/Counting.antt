@@ -5,6 +5,7 @@ use mathlib.Core.List.{List}
 use native.Mathlib.Omega.{arith}
 use borrow.Author.Tests.{le-leb, lt-leb}
 use Rattle.base.specs.Choice.{pick}
+use Rattle.base.specs.Loops.{split}
 use Rattle.meaning.specs.Forest.{Forest}
 use Rattle.meaning.specs.Sections.{Entry}
 use Rattle.meaning.specs.Building.{stepsTogether, entriesFrom, settle, round, Table, roundsFrom, build}
@@ -45,7 +46,7 @@ module _ (limit : ℕ) (settled : List Entry) where
     rounds-go-on h = record { few = omega (arith, z .few, round-saves es (omega arith)); entries = rw (left, lt-leb (stepsTogether es) limit h) at (z .entries); count = count (rw (left, lt-leb (stepsTogether es) limit h) at (z .count)) }
       where
         left : stepsTogether settled - rounds ≡ suc (stepsTogether settled - (rounds + 1))
-        left = omega (arith, z .few)
+        left = split (stepsTogether settled) rounds (omega (arith, z .few))
 
         count : rounds + suc (roundsFrom limit (stepsTogether settled - (rounds + 1)) (round es) .rounds) ≡ buildSettled limit settled .rounds
             → rounds + 1 + roundsFrom limit (stepsTogether settled - (rounds + 1)) (round es) .rounds ≡ buildSettled limit settled .rounds

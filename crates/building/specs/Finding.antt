@@ -9,13 +9,12 @@ use lib.ListN.{getD}
 use Rattle.base.specs.Choice.{pick}
 use Rattle.base.specs.Lists.{numbersFrom}
 use Rattle.base.specs.Numbering.{numbers-split, numbers-end}
-use Rattle.meaning.specs.Sections
 use Rattle.meaning.specs.Building.{Pair, pair, entrySteps, noPair, best, better, bestOf, saves}
 use Rattle.meaning.specs.Building
 use Rattle.shapes.specs.Shapes.{patternOf, entryOf, tableOf, SoundTable}
+use Rattle.shapes.specs.Tables.{noEntry, entry-at}
 use Rattle.shapes.specs.declared.Table.{Table}
 use Rattle.building.specs.declared.rounds.Best.{Best}
-use Rattle.settling.specs.Held.{blank, entry-at}
 use Rattle.building.specs.Saving.{savedBy}
 
 -- the pair found, or nothing where it saves nothing
@@ -66,9 +65,9 @@ pub record InRow (t : Table) (i : ℕ) (found : Best) (j : ℕ) (b : Best) : Typ
 
 -- what a pair of entries saves
 saves-at : (t : Table) (i j : ℕ) → SoundTable t → i < t .count → j < t .count
-    → saves (tableOf t) (pair i j) ≡ savedBy (patternOf (getD (t .entries) i blank .pattern)) (patternOf (getD (t .entries) j blank .pattern))
+    → saves (tableOf t) (pair i j) ≡ savedBy (patternOf (getD (t .entries) i noEntry .pattern)) (patternOf (getD (t .entries) j noEntry .pattern))
 unfolding saves savedBy entrySteps pair entryOf
-saves-at t i j s hi hj = rw (entry-at t s i blank hi, entry-at t s j blank hj)
+saves-at t i j s hi hj = rw (entry-at t s i noEntry hi, entry-at t s j noEntry hj)
 
 module _ (t : Table) (i : ℕ) (found : Best) where
   -- before the first pair of the row
@@ -76,7 +75,7 @@ module _ (t : Table) (i : ℕ) (found : Best) where
   row-starts h = record { there = h; reached = omega arith; rest = refl }
 
   module _ (j : ℕ) (b : Best) (n : ℕ) (s : SoundTable t) (h : j < t .count) (z : InRow t i found j b)
-      (e : n ≡ savedBy (patternOf (getD (t .entries) i blank .pattern)) (patternOf (getD (t .entries) j blank .pattern))) where
+      (e : n ≡ savedBy (patternOf (getD (t .entries) i noEntry .pattern)) (patternOf (getD (t .entries) j noEntry .pattern))) where
     -- with one pair asked
     here : bestOf (tableOf t) (rowFrom t i (j + 1)) (better n (pair i j) (bestIs b)) ≡ bestOf (tableOf t) (rowFrom t i (i + 1)) (bestIs found)
     unfolding bestOf

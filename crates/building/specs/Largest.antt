@@ -12,10 +12,11 @@ use Rattle.base.specs.Lists.{numbersFrom}
 use Rattle.base.specs.Numbering.{numbers-split, numbers-end}
 use Rattle.meaning.specs.Building.{entryAt, entrySteps, cut, largest, cutLargest}
 use Rattle.shapes.specs.Shapes.{patternOf, SoundPattern, entryOf, entriesIn, tableOf, SoundTable}
+use Rattle.shapes.specs.Tables.{noEntry, length-table, entry-at, steps-at}
 use Rattle.shapes.specs.declared.Pattern.{Pattern}
 use Rattle.shapes.specs.declared.Entry.{Entry}
 use Rattle.shapes.specs.declared.Table.{Table}
-use Rattle.settling.specs.Held.{blank, length-table, entry-at, steps-at, put, put-table, put-sound}
+use Rattle.settling.specs.Placing.{put, put-table, put-sound}
 
 -- the entry found is i, and those from j on are still to be asked
 pub record Largest (t : Table) (i j : ℕ) : Type 0 where
@@ -35,20 +36,20 @@ module _ (t : Table) (i j : ℕ) (s : SoundTable t) (h : j < t .count) (z : Larg
   here = ap (λ (js : List ℕ). largest (tableOf t) js i) (sym (numbers-split j (t .count) h)) ∙ z .rest
 
   -- it has more steps and is the largest so far
-  pub larger : getD (t .entries) i blank .pattern .count < getD (t .entries) j blank .pattern .count → Largest t j (j + 1)
+  pub larger : getD (t .entries) i noEntry .pattern .count < getD (t .entries) j noEntry .pattern .count → Largest t j (j + 1)
   unfolding pick
   larger l = record { there = h; reached = omega arith; rest = rw test at here }
     where
       test : ltb (entrySteps (entryAt (tableOf t) i)) (entrySteps (entryAt (tableOf t) j)) ≡ true
-      test = lt-ltb (entrySteps (entryAt (tableOf t) i)) (entrySteps (entryAt (tableOf t) j)) (omega (arith, steps-at t s i blank (z .there), steps-at t s j blank h))
+      test = lt-ltb (entrySteps (entryAt (tableOf t) i)) (entrySteps (entryAt (tableOf t) j)) (omega (arith, steps-at t s i noEntry (z .there), steps-at t s j noEntry h))
 
   -- it has no more, and on ties the first stays
-  pub not-larger : getD (t .entries) j blank .pattern .count ≤ getD (t .entries) i blank .pattern .count → Largest t i (j + 1)
+  pub not-larger : getD (t .entries) j noEntry .pattern .count ≤ getD (t .entries) i noEntry .pattern .count → Largest t i (j + 1)
   unfolding pick
   not-larger l = record { there = z .there; reached = omega arith; rest = rw test at here }
     where
       test : ltb (entrySteps (entryAt (tableOf t) i)) (entrySteps (entryAt (tableOf t) j)) ≡ false
-      test = le-ltb (entrySteps (entryAt (tableOf t) i)) (entrySteps (entryAt (tableOf t) j)) (omega (arith, steps-at t s i blank (z .there), steps-at t s j blank h))
+      test = le-ltb (entrySteps (entryAt (tableOf t) i)) (entrySteps (entryAt (tableOf t) j)) (omega (arith, steps-at t s i noEntry (z .there), steps-at t s j noEntry h))
 
 -- after the last entry
 pub largest-ends : (t : Table) (i j : ℕ) → t .count ≤ j → Largest t i j → i ≡ largest (tableOf t) (numbersFrom 0 (t .count)) 0
@@ -66,12 +67,12 @@ cut-empty t e = rw e refl
 
 module _ (t : Table) (i : ℕ) (p : Pattern) (s : SoundTable t) (h : i < t .count) (e : i ≡ largest (tableOf t) (numbersFrom 0 (t .count)) 0) where
   -- the entry with most steps without its last step is what the definition cuts
-  pub cut-there : patternOf p ≡ cut (patternOf (getD (t .entries) i blank .pattern)) → tableOf (put t s i (changed (getD (t .entries) i blank) p) h) ≡ cutLargest (tableOf t)
+  pub cut-there : patternOf p ≡ cut (patternOf (getD (t .entries) i noEntry .pattern)) → tableOf (put t s i (changed (getD (t .entries) i noEntry) p) h) ≡ cutLargest (tableOf t)
   unfolding cutLargest entryOf
   cut-there q =
-      put-table t s i (changed (getD (t .entries) i blank) p) h
-      ∙ rw (length-table t s, ← e, entry-at t s i blank h, q)
+      put-table t s i (changed (getD (t .entries) i noEntry) p) h
+      ∙ rw (length-table t s, ← e, entry-at t s i noEntry h, q)
 
   -- and it is well formed
-  pub cut-sound : SoundPattern p → SoundTable (put t s i (changed (getD (t .entries) i blank) p) h)
-  cut-sound sp = put-sound t s i (changed (getD (t .entries) i blank) p) h sp
+  pub cut-sound : SoundPattern p → SoundTable (put t s i (changed (getD (t .entries) i noEntry) p) h)
+  cut-sound sp = put-sound t s i (changed (getD (t .entries) i noEntry) p) h sp

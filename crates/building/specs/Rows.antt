@@ -13,9 +13,9 @@ use Rattle.meaning.specs.Sections.{Entry}
 use Rattle.meaning.specs.Building.{Pair, pair, pairsOf, pairsBelow, bestOf, bestPair, ascends}
 use Rattle.meaning.specs.Building
 use Rattle.shapes.specs.Shapes.{tableOf, SoundTable}
+use Rattle.shapes.specs.Tables.{length-table}
 use Rattle.shapes.specs.declared.Table.{Table}
 use Rattle.building.specs.declared.rounds.Best.{Best}
-use Rattle.settling.specs.Held.{length-table}
 use Rattle.building.specs.Finding.{bestIs, rowFrom}
 
 -- the pairs (i, j) with j from k on, where k is after i

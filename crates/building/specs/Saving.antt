@@ -4,8 +4,8 @@ use mathlib.Core.Path.{_≡_}
 use Rattle.meaning.specs.Forest.{Forest, size}
 use Rattle.meaning.specs.Merging.{merge}
 use Rattle.shapes.specs.Shapes.{patternOf, SoundPattern}
+use Rattle.shapes.specs.Steps.{count-size}
 use Rattle.shapes.specs.declared.Pattern.{Pattern}
-use Rattle.settling.specs.Held.{size-pattern}
 
 -- the steps saved
 unfoldable pub savedBy : Forest → Forest → ℕ
@@ -15,4 +15,4 @@ savedBy p q = size p + size q - size (merge p q .pattern)
 pub saved-counts : (p q m : Pattern) → SoundPattern p → SoundPattern q → SoundPattern m → patternOf m ≡ merge (patternOf p) (patternOf q) .pattern
     → p .count + q .count - m .count ≡ savedBy (patternOf p) (patternOf q)
 unfolding savedBy
-saved-counts p q m sp sq sm e = rw (← e, size-pattern p sp, size-pattern q sq, size-pattern m sm)
+saved-counts p q m sp sq sm e = rw (← e, ← count-size p sp, ← count-size q sq, ← count-size m sm)

@@ -9,8 +9,8 @@ use Rattle.meaning.specs.Building.{cut}
 use Rattle.laws.specs.Bridge.{forest-stepsOf}
 use Rattle.laws.specs.Cutting.{size-cut, stepsOf-cut}
 use Rattle.shapes.specs.Shapes.{stepsIn, patternOf, SoundPattern}
+use Rattle.shapes.specs.Steps.{count-size}
 use Rattle.shapes.specs.declared.Pattern.{Pattern}
-use Rattle.settling.specs.Held.{size-pattern}
 
 -- its steps but the last
 abbrev pub shorter : Pattern → Pattern
@@ -21,7 +21,7 @@ module _ (p : Pattern) (s : SoundPattern p) (h : 0 < p .count) where
   steps-shorter : stepsOf (cut (patternOf p)) ≡ stepsIn (shorter p)
   unfolding stepsIn
   steps-shorter =
-      let n : size (cut (patternOf p)) ≡ p .count - 1 = omega (arith, size-pattern p s, size-cut (patternOf p) (omega (arith, size-pattern p s))) in
+      let n : size (cut (patternOf p)) ≡ p .count - 1 = omega (arith, count-size p s, size-cut (patternOf p) (omega (arith, count-size p s))) in
       stepsOf-cut (patternOf p)
       ∙ ap (take (size (cut (patternOf p)))) (s .written)
       ∙ ap (λ (m : ℕ). take m (take (p .count) (p .steps))) n

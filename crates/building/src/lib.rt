@@ -2,9 +2,9 @@
 pub mod rounds; // rounds.rt: the pair that saves most, the cut, a round
 
 use crate::rounds::round;
-use settling::entries::steps_together;
 use settling::settle;
 use shapes::Table;
+use shapes::steps_together;
 ghost use mathlib.Core.Path.{_≡_};
 ghost use Prim.Native.Nat.{_+_, _≤_, _<_};
 ghost use Rattle.meaning.specs.Building.{stepsTogether, settle, round};

@@ -7,6 +7,7 @@ use lib.ListN.{length, getD, drop}
 use native.Mathlib.Numerals.{add-one}
 use Rattle.base.specs.Choice.{pick-true}
 use Rattle.base.specs.Lists.{some}
+use Rattle.base.specs.ListLaws.{some-append}
 use Rattle.base.specs.Standing.{placeAfter, placeAfter-last, standing, standing-last, run-leads}
 use Rattle.base.specs.Loops.{run}
 use Rattle.base.specs.declared.Cur.{Cur}
@@ -15,7 +16,7 @@ use Rattle.meaning.specs.Reader.{go-on, _>>=_, _>>_, give}
 use Rattle.meaning.specs.Sections.{sameLabel, label, labels}
 use Rattle.labels.specs.Places.{textAt, afterLabel, textsAt}
 use Rattle.labels.specs.Judging.{labelPlace, labelsPlace}
-use Rattle.places.specs.Answer.{answer, answer-pick, then-answer, then-give, passed, passed-not, then-byte, then-unless, then-bytes, pick-both, pick-not, pick-either, some-append}
+use Rattle.places.specs.Answer.{answer, answer-pick, then-answer, then-give, passed, passed-not, then-byte, then-unless, then-bytes, pick-both, pick-not, pick-either}
 
 module _ (s : List ℕ) (k : ℕ) (d : List ℕ) (p : ℕ) where
   -- a label at a place, beside the sheet's first k and those before it in its own section

@@ -4,62 +4,21 @@ use mathlib.Core.Path.{_≡_, refl, sym, ap, _∙_}
 use mathlib.Core.Bool.{Bool, true, false}
 use mathlib.Core.List.{List, [], _∷_, _++_, append-assoc}
 use native.Mathlib.Omega.{arith}
-use native.Mathlib.Numerals.{add-one}
 use borrow.Author.Tests.{lt-ltb}
 use lib.Dec.{ltb}
-use lib.ListN.{length, getD, drop, drop-of-length-le}
-use lib.Seq.{drop-cons, getD-take, length-take-le}
+use lib.ListN.{length}
 use Rattle.meaning.specs.Forest.{axisOf, Forest, none, step, childrenIn, forest, stepsOf, stepsFrom}
 use Rattle.meaning.specs.Printing.{ascii, axisText, labelText, several, inBrackets, branchesText, patternText}
 use Rattle.meaning.specs.declared.Step.{Step}
+use Rattle.laws.specs.Children.{childrenFrom, childrenOf}
 use Rattle.shapes.specs.Shapes.{stepsIn, patternOf, SoundPattern}
+use Rattle.shapes.specs.Steps.{stepIn, root-children, length-steps, child-here, child-not, children-end}
 use Rattle.shapes.specs.declared.Pattern.{Pattern}
-use Rattle.laws.specs.Bridge.{first-child, no-child}
 use Rattle.texts.specs.Wanted.{byteIf}
-
--- the child steps of step v among those after the first k
-unfoldable pub childrenFrom : List Step → ℕ → ℕ → Forest
-childrenFrom ss v k = childrenIn v (suc k) (drop k ss)
-
--- the child steps of step v, or of the root, which is 0
-unfoldable pub childrenOf : List Step → ℕ → Forest
-childrenOf ss v = childrenFrom ss v v
 
 -- the branches below one parent: in brackets where there are several
 unfoldable pub belowText : List (List ℕ) → Forest → List ℕ
 belowText ls f = branchesText ls (several f) f
-
--- the step at place k of a pattern's array, counted from 0
-unfoldable pub stepIn : Pattern → ℕ → Step
-stepIn p k = getD (p .steps) k (record { parent = 0; axis = 0; label = 0 })
-
-module _ (p : Pattern) (sound : SoundPattern p) (v k : ℕ) where
-  steps-length : length (stepsIn p) ≡ p .count
-  unfolding stepsIn
-  steps-length = length-take-le (p .count) (p .steps) (omega (arith, sound .few, sound .full))
-
-  steps-go-on : k < p .count → drop k (stepsIn p) ≡ stepIn p k ∷ drop (suc k) (stepsIn p)
-  unfolding stepIn stepsIn
-  steps-go-on h =
-      drop-cons (stepsIn p) k (record { parent = 0; axis = 0; label = 0 }) (omega (arith, steps-length))
-      ∙ ap (λ (s : Step). s ∷ drop (suc k) (stepsIn p)) (getD-take (p .count) (p .steps) k (record { parent = 0; axis = 0; label = 0 }) h)
-
-  -- the step at place k is a child of v
-  pub child-here : k < p .count → stepIn p k .parent ≡ v
-      → childrenFrom (stepsIn p) v k
-      ≡ step (axisOf (stepIn p k .axis)) (stepIn p k .label) (childrenOf (stepsIn p) (k + 1)) (childrenFrom (stepsIn p) v (k + 1))
-  unfolding childrenFrom childrenOf
-  child-here h e = rw add-one (ap (childrenIn v (suc k)) (steps-go-on h) ∙ first-child v (suc k) _ _ e)
-
-  -- it is none
-  pub child-not : k < p .count → (stepIn p k .parent ≡ v → ⊥) → childrenFrom (stepsIn p) v k ≡ childrenFrom (stepsIn p) v (k + 1)
-  unfolding childrenFrom
-  child-not h e = rw add-one (ap (childrenIn v (suc k)) (steps-go-on h) ∙ no-child v (suc k) _ _ e)
-
-  -- none is left
-  pub children-end : p .count ≤ k → childrenFrom (stepsIn p) v k ≡ none
-  unfolding childrenFrom childrenIn
-  children-end h = ap (childrenIn v (suc k)) (drop-of-length-le (stepsIn p) {i = k} (omega (arith, steps-length)))
 
 -- ---- how many
 
@@ -134,9 +93,9 @@ dot-text ls p e = rw e
 
 -- otherwise the branches below its root
 pub pattern-text : (ls : List (List ℕ)) (p : Pattern) → SoundPattern p → (p .count ≡ 0 → ⊥) → patternText ls (patternOf p) ≡ belowText ls (childrenOf (stepsIn p) 0)
-unfolding belowText childrenOf childrenFrom patternOf forest patternText stepsOf stepsFrom
-pattern-text ls p sound h = go (patternOf p) refl
+unfolding belowText patternText stepsOf stepsFrom
+pattern-text ls p sound h = go (patternOf p) refl ∙ ap (belowText ls) (sym (root-children p))
   where
-    go : (f : Forest) → patternOf p ≡ f → patternText ls f ≡ branchesText ls (several f) f
-    go none e = absurd (h (sym (steps-length p sound 0 0) ∙ ap length (sym (sound .written) ∙ ap stepsOf e)))
+    go : (f : Forest) → patternOf p ≡ f → patternText ls f ≡ belowText ls f
+    go none e = absurd (h (sym (length-steps p sound) ∙ ap length (sym (sound .written) ∙ ap stepsOf e)))
     go (step a l kids later) e = refl

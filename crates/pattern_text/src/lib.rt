@@ -9,10 +9,11 @@ use texts::put_if;
 ghost use mathlib.Core.Path.{_≡_};
 ghost use Rattle.meaning.specs.Forest.{axisOf};
 ghost use Rattle.meaning.specs.Printing.{axisText, labelText, several, patternText};
+ghost use Rattle.laws.specs.Children.{childrenOf};
 ghost use Rattle.shapes.specs.Shapes.{stepsIn, patternOf, SoundPattern};
 ghost use Rattle.texts.specs.Output.{written, put};
 ghost use Rattle.pattern_text.specs.StepTexts.{labelsIn};
-ghost use Rattle.pattern_text.specs.Branches.{childrenOf, belowText, stepText};
+ghost use Rattle.pattern_text.specs.Branches.{belowText, stepText};
 
 // An axis: / near, // far; the next place.
 fn put_axis(out: &mut [u8], at: usize, axis: u8) -> usize

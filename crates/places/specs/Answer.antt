@@ -2,7 +2,7 @@
 use Prim.Native.Nat.{ℕ, zero, suc, _+_, _-_}
 use mathlib.Core.Path.{_≡_, refl, ap, _∙_}
 use mathlib.Core.Bool.{Bool, true, false, not, _&&_, _||_}
-use mathlib.Core.List.{List, [], _∷_, _++_}
+use mathlib.Core.List.{List, [], _∷_}
 use lib.Dec.{leb, ltb, leb·zero, leb·suc-zero, leb·suc-suc}
 use lib.ListN.{length, getD, take, drop, drop-of-length-le, length-drop}
 use lib.Seq.{drop-cons, drop-drop}
@@ -10,7 +10,6 @@ use native.Mathlib.Omega.{arith}
 use native.Mathlib.Numerals.{add-one}
 use borrow.Author.Tests.{ltb-true, ltb-false, leb-true, leb-false}
 use Rattle.base.specs.Choice.{pick}
-use Rattle.base.specs.Lists.{some}
 use Rattle.base.specs.Loops.{andThen, run}
 use Rattle.base.specs.Standing.{standing}
 use Rattle.base.specs.declared.Cur.{Cur}
@@ -56,16 +55,6 @@ pub passed-not : (b : Bool) (x : Cur) (n y : ℕ) → pick b (No n) x ≡ At y �
 unfolding pick
 passed-not true x n y h = let z : _≡_ {A = ℕ} 0 1 = cc in absurd (omega arith)
 passed-not false x n y h = (refl, h)
-
--- of two lists, some of the one or some of the other
-pub some-append : {A : Type 0} (p : A → Bool) (xs ys : List A) → some p (xs ++ ys) ≡ (some p xs || some p ys)
-unfolding some
-some-append p [] ys = refl
-some-append p (x ∷ xs) ys = go (p x) (some-append p xs ys)
-  where
-    go : (b : Bool) → some p (xs ++ ys) ≡ (some p xs || some p ys) → (b || some p (xs ++ ys)) ≡ ((b || some p xs) || some p ys)
-    go true e = refl
-    go false e = e
 
 -- a place was reached after another
 pub passed-on : (c : Cur) (f : ℕ → Cur) (y : ℕ) → andThen c f ≡ At y → (x : ℕ) × (c ≡ At x) × (f x ≡ At y)

@@ -1,5 +1,5 @@
 -- The members of an entry with a comma between them, as a loop goes through the subscriptions.
-use Prim.Native.Nat.{ℕ, suc, _+_, _-_, _/_, _%_, _^_, _≤_, _<_}
+use Prim.Native.Nat.{ℕ, _+_, _-_, _/_, _%_, _^_, _≤_, _<_}
 use mathlib.Core.Path.{_≡_, refl, sym, ap, _∙_}
 use mathlib.Core.Bool.{Bool, true, false}
 use mathlib.Core.List.{List, [], _∷_, _++_, append-nil}
@@ -10,6 +10,7 @@ use borrow.Author.Tests.{eq-eqb, ne-eqb}
 use lib.Dec.{eqb}
 use Rattle.base.specs.Choice.{pick}
 use Rattle.base.specs.Lists.{keep, numbersFrom}
+use Rattle.base.specs.Loops.{split, none-left}
 use Rattle.meaning.specs.Fair.{isMember}
 use Rattle.meaning.specs.Routing.{membersOf}
 use Rattle.meaning.specs.Printing.{ascii, decimal, commaText}
@@ -51,16 +52,13 @@ bits-next members i left e =
     ap (λ (n : ℕ). n / 2) e ∙ div-div-eq-div-mul members (2 ^ i) 2 ∙ ap (λ (n : ℕ). members / n) (sym (rw add-one (pow-suc 2 i)))
 
 module _ (members n i left : ℕ) (e : left ≡ members / 2 ^ i) (h : i < n) where
-  next-is : n - i ≡ suc (n - (i + 1))
-  next-is = omega arith
-
   -- subscription i is a member
   pub member-here : (started : Bool) → left % 2 ≡ 1
       → numbersText started (membersFrom members i (n - i)) ≡ byteIf started 44 ++ (decimal i ++ numbersText true (membersFrom members (i + 1) (n - (i + 1))))
   unfolding numbersText membersFrom keep numbersFrom isMember pick
   member-here started b =
       let bit : eqb (members / 2 ^ i % 2) 1 ≡ true = eq-eqb (members / 2 ^ i % 2) 1 (ap (λ (x : ℕ). x % 2) (sym e) ∙ b) in
-      rw (next-is, bit, add-one)
+      rw (split n i h, bit, add-one)
 
   -- it is none
   pub member-not : (started : Bool) → (left % 2 ≡ 1 → ⊥)
@@ -68,11 +66,9 @@ module _ (members n i left : ℕ) (e : left ≡ members / 2 ^ i) (h : i < n) whe
   unfolding membersFrom keep numbersFrom isMember pick
   member-not started b =
       let bit : eqb (members / 2 ^ i % 2) 1 ≡ false = ne-eqb (members / 2 ^ i % 2) 1 (λ z. b (ap (λ (x : ℕ). x % 2) e ∙ z)) in
-      rw (next-is, bit, add-one)
+      rw (split n i h, bit, add-one)
 
 -- none is left
 pub members-end : (members n i : ℕ) (started : Bool) → n ≤ i → numbersText started (membersFrom members i (n - i)) ≡ []
 unfolding numbersText membersFrom keep numbersFrom
-members-end members n i started h =
-    let none-left : n - i ≡ 0 = omega arith in
-    rw none-left
+members-end members n i started h = rw (none-left n i h)

@@ -12,12 +12,14 @@ use Rattle.meaning.specs.Sections.{Sheet}
 use Rattle.meaning.specs.Sections
 use Rattle.meaning.specs.Printing.{tableText, refusedText}
 use Rattle.shapes.specs.Shapes.{entryOf, entriesIn, tableOf, SoundPattern, SoundTable}
+use Rattle.shapes.specs.Steps.{count-size}
+use Rattle.shapes.specs.Tables.{length-table}
 use Rattle.shapes.specs.declared.Entry.{Entry}
 use Rattle.shapes.specs.declared.Table.{Table}
 use Rattle.reading.specs.Places.{forestAt, afterPattern, forestsAt, patternCountAt, sheetAt}
 use Rattle.texts.specs.Output.{written, put, put-whole}
 use Rattle.pattern_text.specs.StepTexts.{labelsIn}
-use Rattle.printing.specs.Tables.{builtTable, textOf, text-of, size-counted, entries-counted}
+use Rattle.printing.specs.Tables.{builtTable, textOf, text-of}
 use Rattle.printing.specs.ShortLabels.{Short}
 use Rattle.printing.specs.Room.{Small, table-room, refused-room}
 
@@ -37,7 +39,7 @@ unfolding entryOf
 small-entries [] sound x m = elim m [ ]
 small-entries (e ∷ es) sound x m =
     ⊎-elim
-    (λ q. omega (arith, ap (λ (y : Sections.Entry). size (y .pattern)) q, size-counted (e .pattern) (sound e (List·Memᴰ·head refl)), sound e (List·Memᴰ·head refl) .few))
+    (λ q. omega (arith, ap (λ (y : Sections.Entry). size (y .pattern)) q, count-size (e .pattern) (sound e (List·Memᴰ·head refl)), sound e (List·Memᴰ·head refl) .few))
     (small-entries es (λ y k. sound y (List·Memᴰ·tail k)) x)
     (List·Memᴰ·cases-cons m)
 
@@ -45,7 +47,7 @@ small-entries (e ∷ es) sound x m =
 pub small-table : (t : Table) (rounds : ℕ) → SoundTable t → rounds < 100000 → Small (builtTable t rounds)
 unfolding builtTable tableOf
 small-table t rounds sound h =
-    record { few = omega (arith, entries-counted t sound, sound .few); small = small-entries (entriesIn t) (sound .patterns); rounds = h }
+    record { few = omega (arith, length-table t sound, sound .few); small = small-entries (entriesIn t) (sound .patterns); rounds = h }
 
 -- after `put_table` the output begins with the table's text, and the next place is its length
 pub table-printed : (sh : Sheet) (s : List ℕ) (subscriptions : ℕ) (t : Table) (rounds : ℕ) (out after : List ℕ) (next : ℕ)

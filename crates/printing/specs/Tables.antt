@@ -1,24 +1,17 @@
 -- The text of a table, as a loop goes through its entries, and its totals.
 use Prim.Native.Nat.{ℕ, _+_, _≤_, _<_}
-use mathlib.Core.Path.{_≡_, refl, sym, ap, _∙_}
-use mathlib.Core.List.{List, [], _++_, map, flatMap, append-assoc}
-use native.Mathlib.Omega.{arith}
-use native.Mathlib.Numerals.{add-one}
-use lib.ListN.{length, getD, take, drop, drop-of-length-le, length-map}
-use lib.Seq.{getD-take, length-take-le, slice-cons}
-use Rattle.base.specs.Lists.{total}
-use Rattle.base.specs.Replacing.{place-in}
+use mathlib.Core.Path.{_≡_, sym, _∙_}
+use mathlib.Core.List.{List, [], _++_, flatMap, append-assoc}
+use lib.ListN.{length, getD, take}
 use Rattle.base.specs.Storing.{partsFrom, parts-go-on, parts-end, flatMap-map}
-use Rattle.meaning.specs.Forest.{size}
 use Rattle.meaning.specs.Sections.{Sheet}
-use Rattle.meaning.specs.Building.{entrySteps, stepsTogether}
+use Rattle.meaning.specs.Building.{stepsTogether}
 use Rattle.meaning.specs.Building
 use Rattle.meaning.specs.Printing.{ascii, decimal, totalsText, entryText, tableText}
-use Rattle.shapes.specs.Shapes.{stepsIn, patternOf, entryOf, entriesIn, tableOf, SoundPattern, SoundTable}
-use Rattle.shapes.specs.declared.Pattern.{Pattern}
+use Rattle.shapes.specs.Shapes.{entryOf, entriesIn, tableOf, SoundTable}
+use Rattle.shapes.specs.Tables.{entries-fit, length-table}
 use Rattle.shapes.specs.declared.Entry.{Entry}
 use Rattle.shapes.specs.declared.Table.{Table}
-use Rattle.laws.specs.Bridge.{length-stepsOf}
 
 -- the entries of a table by value, after so many rounds
 unfoldable pub builtTable : Table → ℕ → Building.Table
@@ -56,71 +49,23 @@ entryTextOf ls subscriptions e = entryText ls subscriptions (entryOf e)
 unfoldable pub entriesText : List (List ℕ) → ℕ → Table → ℕ → List ℕ
 entriesText ls subscriptions t i = partsFrom (entryTextOf ls subscriptions) (t .count) i (t .entries)
 
--- what stands past the end of an array
-abbrev pub nothing : Entry
-nothing = record { members = 0; pattern = record { count = 0; steps = [] } }
-
 module _ (t : Table) (sound : SoundTable t) where
-  enough : t .count ≤ length (t .entries)
-  enough = omega (arith, sound .few, sound .full)
-
-  -- the pattern of each entry is sound
-  pub entry-sound : (i : ℕ) (d : Entry) → i < t .count → SoundPattern (getD (t .entries) i d .pattern)
-  unfolding entriesIn
-  entry-sound i d h =
-      let long = length-take-le (t .count) (t .entries) enough in
-      rw (getD-take (t .count) (t .entries) i d h) at
-      (sound .patterns (getD (take (t .count) (t .entries)) i d) (place-in (take (t .count) (t .entries)) i d (omega arith)))
-
-  -- as many entries as are counted
-  pub entries-counted : length (tableOf t) ≡ t .count
-  unfolding tableOf entriesIn
-  entries-counted = length-map (take (t .count) (t .entries)) entryOf ∙ length-take-le (t .count) (t .entries) enough
-
   module _ (ls : List (List ℕ)) (subscriptions : ℕ) where
     -- an entry, and then the others
     pub entry-here : (i : ℕ) (d : Entry) → i < t .count
         → entriesText ls subscriptions t i ≡ entryText ls subscriptions (entryOf (getD (t .entries) i d)) ++ entriesText ls subscriptions t (i + 1)
     unfolding entriesText entryTextOf
-    entry-here i d h = parts-go-on (entryTextOf ls subscriptions) (t .count) i (t .entries) enough d h
+    entry-here i d h = parts-go-on (entryTextOf ls subscriptions) (t .count) i (t .entries) (entries-fit t sound) d h
 
     -- none is left
     pub entries-end : (i : ℕ) → t .count ≤ i → entriesText ls subscriptions t i ≡ []
     unfolding entriesText
-    entries-end i h = parts-end (entryTextOf ls subscriptions) (t .count) i (t .entries) enough h
+    entries-end i h = parts-end (entryTextOf ls subscriptions) (t .count) i (t .entries) (entries-fit t sound) h
 
     -- the totals, and then all entries
     pub table-text : (rounds steps : ℕ) → steps ≡ stepsTogether (tableOf t)
         → textOf ls subscriptions (builtTable t rounds) ≡ totalsOf subscriptions (t .count) steps rounds ++ entriesText ls subscriptions t 0
     unfolding textOf builtTable entriesText entryTextOf partsFrom tableOf entriesIn
     table-text rounds steps e =
-        λ i. (totals-of subscriptions (builtTable t rounds) ∙ λ j. totalsOf subscriptions (entries-counted j) (sym e j) rounds) i
+        λ i. (totals-of subscriptions (builtTable t rounds) ∙ λ j. totalsOf subscriptions (length-table t sound j) (sym e j) rounds) i
         ++ flatMap-map (entryText ls subscriptions) entryOf (take (t .count) (t .entries)) i
-
--- ---- the steps together
-
--- a sound pattern has as many steps as it counts
-pub size-counted : (p : Pattern) → SoundPattern p → size (patternOf p) ≡ p .count
-unfolding stepsIn
-size-counted p sound =
-    sym (length-stepsOf (patternOf p)) ∙ ap length (sound .written) ∙ length-take-le (p .count) (p .steps) (omega (arith, sound .few, sound .full))
-
--- the steps of the entries from place i on
-unfoldable pub stepsLeft : Table → ℕ → ℕ
-stepsLeft t i = total entrySteps (map entryOf (drop i (take (t .count) (t .entries))))
-
-module _ (t : Table) (sound : SoundTable t) where
-  pub steps-first : stepsLeft t 0 ≡ stepsTogether (tableOf t)
-  unfolding stepsLeft stepsTogether tableOf entriesIn
-  steps-first = refl
-
-  pub steps-here : (i : ℕ) (d : Entry) → i < t .count → stepsLeft t i ≡ getD (t .entries) i d .pattern .count + stepsLeft t (i + 1)
-  unfolding stepsLeft total entrySteps entryOf
-  steps-here i d h =
-      ap (λ es. total entrySteps (map entryOf es)) (slice-cons i (t .count) (t .entries) d h (enough t sound))
-      ∙ λ j. size-counted (getD (t .entries) i d .pattern) (entry-sound t sound i d h) j + total entrySteps (map entryOf (drop (sym (add-one i) j) (take (t .count) (t .entries))))
-
-  pub steps-end : (i : ℕ) → t .count ≤ i → stepsLeft t i ≡ 0
-  unfolding stepsLeft total
-  steps-end i h =
-      ap (λ es. total entrySteps (map entryOf es)) (drop-of-length-le (take (t .count) (t .entries)) {i = i} (omega (arith, length-take-le (t .count) (t .entries) (enough t sound))))

@@ -2,15 +2,15 @@
 use pattern_text::put_pattern;
 use shapes::Entry;
 use shapes::Table;
+use shapes::steps_together;
 use texts::put_bytes;
 use texts::put_counted;
 use texts::put_decimal;
 use texts::put_if;
 ghost use mathlib.Core.Path.{_≡_};
-ghost use Rattle.meaning.specs.Building.{stepsTogether};
 ghost use Rattle.meaning.specs.Routing.{membersOf};
 ghost use Rattle.meaning.specs.Printing.{commaText, entryText};
-ghost use Rattle.shapes.specs.Shapes.{entryOf, tableOf, SoundPattern, SoundTable};
+ghost use Rattle.shapes.specs.Shapes.{entryOf, SoundPattern, SoundTable};
 ghost use Rattle.texts.specs.Output.{written, put};
 ghost use Rattle.pattern_text.specs.StepTexts.{labelsIn};
 ghost use Rattle.printing.specs.Tables.{totalsOf, builtTable, textOf};
@@ -65,28 +65,12 @@ pub fn put_entry(out: &mut [u8], at: usize, s: &[u8], e: Entry, subscriptions: u
     put_bytes(out, next, b"\n")
 }
 
-// The steps together.
-fn table_steps(t: Table) -> usize
-    requires { ⌜ SoundTable t ⌝ }
-    ensures { λ r. ⌜ r ≡ stepsTogether (tableOf t) ⌝ }
-{
-    let mut n: usize = 0;
-    let mut i = 0;
-    while i < t.count {
-        let e = t.entries[i];
-        let p = e.pattern;
-        n += p.count;
-        i += 1;
-    }
-    n
-}
-
 // A table: the totals, and a line for each entry; the next place.
 pub fn put_table(out: &mut [u8], s: &[u8], t: Table, subscriptions: usize, rounds: usize) -> usize
     requires { ⌜ SoundTable t ⌝ }
     ensures { λ r. ⌜ written (now (out .exit)) r ≡ put (written (now (out .entry)) 0) (textOf (labelsIn (now (s .entry))) subscriptions (builtTable t rounds)) ⌝ }
 {
-    let steps = table_steps(t);
+    let steps = steps_together(t);
     let mut next = put_totals(out, 0, subscriptions, t.count, steps, rounds);
     let mut i = 0;
     while i < t.count {

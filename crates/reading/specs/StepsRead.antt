@@ -18,7 +18,7 @@ use Rattle.base.specs.declared.Cur.{Cur}
 use Rattle.base.specs.declared.Cur.the-variants.{At}
 use Rattle.meaning.specs.Reader.{go-on, _>>=_, _>>_, give}
 use Rattle.meaning.specs.Sections.{upFrom, pathAfter, mayHang, aStep, steps}
-use Rattle.meaning.specs.declared.Step.{Step}
+use Rattle.laws.specs.Judged.{path-after}
 use Rattle.reading.specs.Places.{stepAt, afterStep, stepsAt}
 use Rattle.reading.specs.Judging.{climbs, stepLabel, isSecondNear, stepPlace}
 use Rattle.places.specs.Answer.{answer, answer-pick, then-answer, then-give, passed, passed-not, then-byte, then-unless, pick-not, two}
@@ -75,12 +75,6 @@ length-upFrom q (k ∷ path) = go (eqb k q) (length-upFrom q path)
     go true h = omega arith
     go false h = omega arith
 
--- the path after one step more
-pathAfter-last : (k : ℕ) (path : List ℕ) (ss : List Step) (t : Step) → pathAfter k path (ss ++ (t ∷ [])) ≡ (k + length ss) ∷ upFrom (t .parent) (pathAfter k path ss)
-unfolding pathAfter
-pathAfter-last k path [] t = ap (λ (n : ℕ). n ∷ upFrom (t .parent) path) (omega arith)
-pathAfter-last k path (x ∷ ss) t = pathAfter-last (suc k) (k ∷ upFrom (x .parent) path) ss t ∙ ap (λ (n : ℕ). n ∷ upFrom (t .parent) (pathAfter (suc k) (k ∷ upFrom (x .parent) path) ss)) (omega arith)
-
 -- three bytes a step
 pub step-place : (p k : ℕ) → placeAfter afterStep p k ≡ p + 3 * k
 unfolding placeAfter afterStep
@@ -120,7 +114,7 @@ module _ (s : List ℕ) (known p : ℕ) where
       longer =
           let all : stepsAt s p k ++ (stepAt s x ∷ []) ≡ stepsAt s p (k + 1) = rw (add-one k) (rw there at (standing-last (stepAt s) afterStep p k)) in
           let long : 1 + length (stepsAt s p k) ≡ k + 1 = omega (arith, length-standing (stepAt s) afterStep p k) in
-          sym (ap (pathAfter 1 (0 ∷ [])) all) ∙ pathAfter-last 1 (0 ∷ []) (stepsAt s p k) (stepAt s x) ∙ ap (λ (n : ℕ). n ∷ upFrom (getD s x 0) (pathAfter 1 (0 ∷ []) (stepsAt s p k))) long
+          sym (ap (pathAfter 1 (0 ∷ [])) all) ∙ path-after 1 (0 ∷ []) (stepsAt s p k) (stepAt s x) ∙ ap (λ (n : ℕ). n ∷ upFrom (getD s x 0) (pathAfter 1 (0 ∷ []) (stepsAt s p k))) long
 
       up : WayUp s p (getD s (p + 3 * (k + 1 - 1)) 0) (upFrom (getD s x 0) (pathAfter 1 (0 ∷ []) (stepsAt s p k)))
       up =

@@ -6,17 +6,18 @@ use lib.ListN.{getD}
 use Rattle.base.specs.Lists.{without}
 use Rattle.meaning.specs.Building.{pair, joinAt}
 use Rattle.shapes.specs.Shapes.{patternOf, entryOf, tableOf, SoundTable}
+use Rattle.shapes.specs.Tables.{noEntry, entry-at}
 use Rattle.shapes.specs.declared.Pattern.{Pattern}
 use Rattle.shapes.specs.declared.Entry.{Entry}
 use Rattle.shapes.specs.declared.Table.{Table}
-use Rattle.settling.specs.Held.{blank, entry-at, put, put-table}
+use Rattle.settling.specs.Placing.{put, put-table}
 
 -- the pattern with the members of entries i and j
 abbrev pub both : Table → Pattern → ℕ → ℕ → Entry
-both t p i j = record { members = bitOr (getD (t .entries) i blank .members) (getD (t .entries) j blank .members); pattern = p }
+both t p i j = record { members = bitOr (getD (t .entries) i noEntry .members) (getD (t .entries) j noEntry .members); pattern = p }
 
 module _ (t : Table) (s : SoundTable t) (p : Pattern) (i j : ℕ) (hi : i < t .count) (hj : j < t .count) where
   -- without j it is what joining gives
   pub both-joined : without j (tableOf (put t s i (both t p i j) hi)) ≡ joinAt (patternOf p) (pair i j) (tableOf t)
   unfolding joinAt pair entryOf
-  both-joined = ap (without j) (put-table t s i (both t p i j) hi ∙ rw (entry-at t s i blank hi, entry-at t s j blank hj))
+  both-joined = ap (without j) (put-table t s i (both t p i j) hi ∙ rw (entry-at t s i noEntry hi, entry-at t s j noEntry hj))

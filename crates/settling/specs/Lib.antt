@@ -1,5 +1,4 @@
-pub mod Held
-pub mod Summing
+pub mod Placing
 pub mod Removing
 pub mod Joining
 pub mod Pairs

@@ -12,8 +12,8 @@ use Rattle.meaning.specs.Covering.{covers}
 use Rattle.meaning.specs.Sections
 use Rattle.meaning.specs.Building.{pair, joinAt, coversOther}
 use Rattle.shapes.specs.Shapes.{patternOf, entryOf, tableOf, SoundTable}
+use Rattle.shapes.specs.Tables.{noEntry, length-table, entry-at}
 use Rattle.shapes.specs.declared.Table.{Table}
-use Rattle.settling.specs.Held.{blank, length-table, entry-at}
 use Rattle.settling.specs.Settled.{coversAt, taken, Searched, search-next, search-same, search-higher, shorter}
 
 -- an entry itself is passed over
@@ -23,9 +23,9 @@ covers-itself t i k e = rw (eq-eqb i k (sym e))
 
 -- another is asked by its pattern
 pub covers-other : (t : Table) (i k : ℕ) → SoundTable t → i < t .count → k < t .count → (k ≡ i → ⊥)
-    → covers (patternOf (getD (t .entries) i blank .pattern)) (patternOf (getD (t .entries) k blank .pattern)) ≡ coversAt (tableOf t) i k
+    → covers (patternOf (getD (t .entries) i noEntry .pattern)) (patternOf (getD (t .entries) k noEntry .pattern)) ≡ coversAt (tableOf t) i k
 unfolding coversAt coversOther pair entryOf
-covers-other t i k s hi hk h = rw (ne-eqb i k (λ e. h (sym e)), entry-at t s i blank hi, entry-at t s k blank hk)
+covers-other t i k s hi hk h = rw (ne-eqb i k (λ e. h (sym e)), entry-at t s i noEntry hi, entry-at t s k noEntry hk)
 
 module _ (first : List Sections.Entry) (t : Table) (i j r : ℕ) (s : SoundTable t) (z : Searched first (tableOf t) i j) (hi : i < t .count)
     (e : r ≡ scan (coversAt (tableOf t) i) (t .count - j) j) where
@@ -46,7 +46,7 @@ module _ (first : List Sections.Entry) (t : Table) (i j r : ℕ) (s : SoundTable
   row-passed h = search-next first (tableOf t) i j z there (λ b hb hl. asked b hb (omega (arith, length-table t s)))
 
   -- an entry was found
-  module _ (hr : r < t .count) (u : Table) (v : SoundTable u) (q : tableOf u ≡ joinAt (patternOf (getD (t .entries) i blank .pattern)) (pair i r) (tableOf t)) where
+  module _ (hr : r < t .count) (u : Table) (v : SoundTable u) (q : tableOf u ≡ joinAt (patternOf (getD (t .entries) i noEntry .pattern)) (pair i r) (tableOf t)) where
     -- it is covered
     holds : coversAt (tableOf t) i r ≡ true
     holds = rw e (scan-holds (coversAt (tableOf t) i) (t .count - j) j (omega (arith, from)))
@@ -62,7 +62,7 @@ module _ (first : List Sections.Entry) (t : Table) (i j r : ℕ) (s : SoundTable
     -- the table is what the definition then has
     is-taken : tableOf u ≡ taken (tableOf t) i r
     unfolding entryOf
-    is-taken = q ∙ rw (entry-at t s i blank hi) refl
+    is-taken = q ∙ rw (entry-at t s i noEntry hi) refl
 
     -- it has one entry less
     pub one-less : suc (u .count) ≡ t .count

@@ -1,28 +1,12 @@
-// Entries of a table: two are joined, one is removed, the steps of all are counted.
+// Entries of a table: two are joined, one is removed.
 use shapes::Entry;
 use shapes::Pattern;
 use shapes::Table;
 ghost use mathlib.Core.Path.{_≡_};
-ghost use Prim.Native.Nat.{_<_, _≤_};
+ghost use Prim.Native.Nat.{_<_};
 ghost use Rattle.base.specs.Lists.{without};
-ghost use Rattle.meaning.specs.Building.{pair, joinAt, stepsTogether};
+ghost use Rattle.meaning.specs.Building.{pair, joinAt};
 ghost use Rattle.shapes.specs.Shapes.{patternOf, SoundPattern, tableOf, SoundTable};
-
-// The steps together.
-pub fn steps_together(t: Table) -> usize
-    requires { ⌜ SoundTable t ⌝ }
-    ensures { λ r. ⌜ (r ≡ stepsTogether (tableOf t)) × (r ≤ 1024) ⌝ }
-{
-    let mut n = 0;
-    let mut i = 0;
-    while i < t.count {
-        let e = t.entries[i];
-        let p = e.pattern;
-        n += p.count;
-        i += 1;
-    }
-    n
-}
 
 // Entry j is removed, and the later ones are moved down.
 fn remove(t: Table, j: usize) -> Table

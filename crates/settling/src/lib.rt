@@ -1,5 +1,5 @@
 // Settling: where entry i covers entry j, j's members go to i and j is removed, until there is no such pair.
-pub mod entries; // entries.rt: joining two entries, the steps together
+pub mod entries; // entries.rt: joining two entries
 
 use crate::entries::join_at;
 use covering::covers;

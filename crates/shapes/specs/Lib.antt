@@ -2,3 +2,4 @@ pub mod Shapes
 pub mod Steps
 pub mod Holding
 pub mod Tables
+pub mod Summing

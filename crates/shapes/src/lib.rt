@@ -1,8 +1,10 @@
 // Patterns, entries and tables by value, and what each stands for (specs/Shapes.antt).
 use meaning::Step;
 ghost use mathlib.Core.Path.{_≡_};
+ghost use Prim.Native.Nat.{_≤_};
 ghost use Rattle.meaning.specs.Forest.{none};
-ghost use Rattle.shapes.specs.Shapes.{patternOf, SoundPattern};
+ghost use Rattle.meaning.specs.Building.{stepsTogether};
+ghost use Rattle.shapes.specs.Shapes.{patternOf, SoundPattern, tableOf, SoundTable};
 
 // A pattern: the first `count` of its steps, in preorder.
 pub struct Pattern {
@@ -34,4 +36,20 @@ pub fn no_steps() -> Pattern
             label: 0,
         }; 16],
     }
+}
+
+// The steps of all entries together.
+pub fn steps_together(t: Table) -> usize
+    requires { ⌜ SoundTable t ⌝ }
+    ensures { λ r. ⌜ (r ≡ stepsTogether (tableOf t)) × (r ≤ 1024) ⌝ }
+{
+    let mut n = 0;
+    let mut i = 0;
+    while i < t.count {
+        let e = t.entries[i];
+        let p = e.pattern;
+        n += p.count;
+        i += 1;
+    }
+    n
 }

@@ -4,10 +4,12 @@ use native.Mathlib.Omega.{arith}
 use borrow.Author.Needs.{needs}
 use borrow.Fn.Kinds.{Out}
 use Rattle.meaning.specs.Printing.{branchesText}
+use Rattle.laws.specs.Children.{childrenFrom}
 use Rattle.shapes.specs.Shapes.{stepsIn}
+use Rattle.shapes.specs.Steps.{stepIn}
 use Rattle.texts.specs.Output.{Left, left-first, left-goes-on, left-stays, left-none, left-same, put-is}
 use Rattle.pattern_text.specs.StepTexts.{labelsIn}
-use Rattle.pattern_text.specs.Branches.{childrenFrom, stepIn, branch-text, other-text, end-text, below-text}
+use Rattle.pattern_text.specs.Branches.{branch-text, other-text, end-text, below-text}
 use Prim.Native.Nat.{ℕ, _-_, _≤_, _<_}
 use borrow.Fn.Kinds.{In}
 use borrow.Fn.PlainCycle.{Measures, is, falls, and}

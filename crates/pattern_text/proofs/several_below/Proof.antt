@@ -3,8 +3,10 @@ use Prim.Native.Nat.{_+_, _-_, _≤_}
 use mathlib.Core.Path.{_≡_}
 use native.Mathlib.Omega.{arith}
 use borrow.Author.Needs.{needs}
+use Rattle.laws.specs.Children.{childrenFrom, childrenOf}
 use Rattle.shapes.specs.Shapes.{stepsIn}
-use Rattle.pattern_text.specs.Branches.{childrenFrom, childrenOf, stepIn, branches, branch-counted, branch-not, all-counted}
+use Rattle.shapes.specs.Steps.{stepIn}
+use Rattle.pattern_text.specs.Branches.{branches, branch-counted, branch-not, all-counted}
 use Rattle.pattern_text.proofs.several_below.Statement.{statement}
 use Rattle.pattern_text.proofs.several_below.Tie as tie
 

@@ -2,9 +2,10 @@
 use Prim.Native.Nat.{_-_}
 use mathlib.Core.Path.{_∙_}
 use native.Mathlib.Omega.{arith}
+use Rattle.shapes.specs.Tables.{entry-sound}
 use Rattle.texts.specs.Output.{Left, left-first, left-goes-on, left-none, left-same, put-then, put-is, same-room}
 use Rattle.pattern_text.specs.StepTexts.{labelsIn}
-use Rattle.printing.specs.Tables.{entriesText, entry-sound, entry-here, entries-end, table-text}
+use Rattle.printing.specs.Tables.{entriesText, entry-here, entries-end, table-text}
 use Rattle.printing.proofs.put_table.Statement.{statement}
 use Rattle.printing.proofs.put_table.Tie as tie
 
@@ -14,8 +15,8 @@ Inv-loop out₀ s subscriptions rounds t steps next₀ i₀ out next i = Left ou
 abbrev μ-loop : tie.MeasureT-loop
 μ-loop out₀ s subscriptions rounds t steps next₀ i₀ out next i = t .count - i
 
-table-steps-requires : tie.Need-table-steps-requires Inv-loop μ-loop
-table-steps-requires c κs = c .before .before .pre
+steps-together-requires : tie.Need-steps-together-requires Inv-loop μ-loop
+steps-together-requires c κs = c .before .before .pre
 
 put-totals-requires : tie.Need-put-totals-requires Inv-loop μ-loop
 put-totals-requires c κs = tt
@@ -54,7 +55,7 @@ returns c = let l = c .before in
     let s = l .before .before .before .before .before .before .before .before in
     let totals = l .before .before .before in
     let steps = totals .before .before in
-    put-is _ _ _ _ (table-text (s .args .t3) (s .pre) (labelsIn (s .args .s .now)) (s .args .subscriptions) (s .args .rounds) (steps .table-steps .result) (steps .table-steps .ensures))
+    put-is _ _ _ _ (table-text (s .args .t3) (s .pre) (labelsIn (s .args .s .now)) (s .args .subscriptions) (s .args .rounds) (steps .steps-together .result) (steps .steps-together .ensures .0))
     (put-then _ _ _ _ _ (totals .put-totals .ensures)
     (left-none (l .loop .inv) (entries-end (s .args .t3) (s .pre) (labelsIn (s .args .s .now)) (s .args .subscriptions) (l .loop .i) (c .loop-test .left))))
 
@@ -64,7 +65,7 @@ put-table-spec =
     (tie.spec
     Inv-loop
     μ-loop
-    table-steps-requires
+    steps-together-requires
     put-totals-requires
     loop-holds
     mul-e

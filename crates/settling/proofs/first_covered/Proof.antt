@@ -8,7 +8,7 @@ use borrow.Author.Needs.{needs}
 use Rattle.base.specs.Loops.{scan}
 use Rattle.base.specs.Scanning.{scan-stops, scan-goes-on, scan-ends}
 use Rattle.shapes.specs.Shapes.{tableOf}
-use Rattle.settling.specs.Held.{blank, sound-at}
+use Rattle.shapes.specs.Tables.{noEntry, entry-sound}
 use Rattle.settling.specs.Settled.{coversAt}
 use Rattle.settling.specs.Turns.{covers-itself, covers-other}
 use Rattle.settling.proofs.first_covered.Statement.{statement}
@@ -38,8 +38,8 @@ element-copy-out-f c = omega arith
 covers-requires : tie.Need-covers-requires Inv-loop μ-loop
 covers-requires c κs =
     let a = c .before .before .before .before .before .before in
-    let one = sound-at (a .args .t1) (a .pre .0) (a .args .i) blank (a .pre .1) in
-    let other = sound-at (a .args .t1) (a .pre .0) (c .before .before .before .loop .k) blank (omega arith) in
+    let one = entry-sound (a .args .t1) (a .pre .0) (a .args .i) noEntry (a .pre .1) in
+    let other = entry-sound (a .args .t1) (a .pre .0) (c .before .before .before .loop .k) noEntry (omega arith) in
     search needs
 
 returns : tie.Need-returns Inv-loop μ-loop

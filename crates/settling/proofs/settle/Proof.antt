@@ -2,7 +2,7 @@
 use Prim.Native.Nat.{_*_, _-_}
 use native.Mathlib.Omega.{arith}
 use Rattle.shapes.specs.Shapes.{tableOf, SoundTable}
-use Rattle.settling.specs.Held.{blank, length-table, sound-at}
+use Rattle.shapes.specs.Tables.{noEntry, length-table, entry-sound}
 use Rattle.settling.specs.Settled.{Searched, search-starts, search-ends}
 use Rattle.settling.specs.Turns.{row-passed, one-less, goes-on-same, goes-on-higher}
 use Rattle.settling.proofs.settle.Statement.{statement}
@@ -31,7 +31,7 @@ element-copy-out-e c = omega arith
 join-at-requires : tie.Need-join-at-requires Inv-loop μ-loop
 join-at-requires c κs =
     let l = c .before .before .before .before .loop in
-    (l .inv .1, sound-at (l .u) (l .inv .1) (l .i) blank (omega arith), omega arith, omega arith)
+    (l .inv .1, entry-sound (l .u) (l .inv .1) (l .i) noEntry (omega arith), omega arith, omega arith)
 
 sub-i : tie.Need-sub-i Inv-loop μ-loop
 sub-i c = omega arith

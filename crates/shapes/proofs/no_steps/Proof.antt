@@ -1,13 +1,11 @@
+-- `shapes::no_steps` meets its contract: no step is counted, so the pattern has none.
 use mathlib.Core.Path.{refl}
 use native.Mathlib.Omega.{arith}
 use Rattle.meaning.specs.Forest.{forest, childrenIn, stepsOf, stepsFrom}
 use Rattle.shapes.specs.Shapes.{patternOf, stepsIn}
 use Rattle.shapes.proofs.no_steps.Statement.{statement}
 use Rattle.shapes.proofs.no_steps.Tie as tie
-use Rattle.shapes.proofs.no_steps.Reads as reads
-use Rattle.shapes.proofs.no_steps.Lts as lts
 
--- src/lib.rt:26:1
 returns : tie.Need-returns
 unfolding patternOf stepsIn forest childrenIn stepsOf stepsFrom
 returns c = (refl, record { few = omega arith; full = refl; written = refl })

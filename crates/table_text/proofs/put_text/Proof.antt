@@ -1,84 +1,61 @@
+-- `table_text::put_text` meets its contract: a short input and a sheet that is refused give a refusal, any other sheet its table.
 use native.Mathlib.Omega.{arith}
 use Rattle.table_text.specs.Whole.{put-short, put-no, put-yes, part-stands}
 use borrow.Author.Needs.{needs}
 use Rattle.table_text.proofs.put_text.Statement.{statement}
 use Rattle.table_text.proofs.put_text.Tie as tie
-use Rattle.table_text.proofs.put_text.Reads as reads
-use Rattle.table_text.proofs.put_text.Lts as lts
-use Rattle.texts.proofs.put_refused.Reads as put-refused-reads
-use Rattle.places.proofs.pair_at.Reads as pair-at-reads
-use Rattle.reading.proofs.sheet.Reads as sheet-reads
-use Rattle.table_text.proofs.put_built.Reads as put-built-reads
 
--- src/lib.rt:33:9
 put-refused-requires : tie.Need-put-refused-requires
 put-refused-requires c κs = search needs
 
--- src/lib.rt:33:9
 same-length : tie.Need-same-length
 same-length c = search needs
 
--- src/lib.rt:33:9
 returns : tie.Need-returns
 returns c = put-short _ _ _ (c .before .before .put-refused .ensures) (c .before .before .before .before .if1 .taken)
 
--- src/lib.rt:35:9
 pair-at-requires : tie.Need-pair-at-requires
 pair-at-requires c κs = search needs
 
--- src/lib.rt:36:13
 sub-s : tie.Need-sub-s
 sub-s c = search needs
 
--- src/lib.rt:36:13
 part-s-start : tie.Need-part-s-start
 part-s-start c = search needs
 
--- src/lib.rt:36:13
 part-s-end : tie.Need-part-s-end
 part-s-end c = search needs
 
--- src/lib.rt:37:11
 sheet-requires : tie.Need-sheet-requires
 sheet-requires c κs = search needs
 
--- src/lib.rt:38:17
 enum-known-x : tie.Need-enum-known-x
 enum-known-x c = search needs
 
--- src/lib.rt:38:36
 cast-put-built : tie.Need-cast-put-built
 cast-put-built c = search needs
 
--- src/lib.rt:38:23
 put-built-requires : tie.Need-put-built-requires
 put-built-requires c κs = part-stands _ _ _ (c .before .before .before .before .sheet .ensures) (c .before .before .x .given .1)
 
--- src/lib.rt:39:17
 enum-known-m : tie.Need-enum-known-m
 enum-known-m c = search needs
 
--- src/lib.rt:39:40
 cast-put-refused : tie.Need-cast-put-refused
 cast-put-refused c = search needs
 
--- src/lib.rt:39:23
 put-refused-requires-2 : tie.Need-put-refused-requires-2
 put-refused-requires-2 c κs = search needs
 
--- src/lib.rt:29:1
 same-length-2 : tie.Need-same-length-2
 same-length-2 c = search needs
 
--- src/lib.rt:29:1
 returns-2 : tie.Need-returns-2
 returns-2 c = put-yes _ _ _ _ _ _ (omega arith) (c .before .before .before .before .before .before .before .sheet .ensures) (c .before .before .before .before .before .x .given .1) (c .before .before .before .before .before .before .before .before .before .pair-at .ensures .0) (c .before .before .put-built .ensures)
 
--- src/lib.rt:29:1
 same-length-3 : tie.Need-same-length-3
 same-length-3 c = search needs
 
--- src/lib.rt:29:1
 returns-3 : tie.Need-returns-3
 returns-3 c = put-no _ _ _ _ _ (omega arith) (c .before .before .before .before .before .before .before .sheet .ensures) (c .before .before .before .before .before .m .given .1) (c .before .before .put-refused2 .ensures)
 

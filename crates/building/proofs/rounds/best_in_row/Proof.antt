@@ -2,7 +2,7 @@
 use Prim.Native.Nat.{_-_, _<_}
 use mathlib.Core.Logic.{⊎-elim}
 use native.Mathlib.Omega.{arith}
-use Rattle.settling.specs.Held.{blank, sound-at}
+use Rattle.shapes.specs.Tables.{noEntry, entry-sound}
 use Rattle.building.specs.Finding.{InRow, row-starts, row-better, row-no-better, row-ends}
 use Rattle.building.proofs.rounds.best_in_row.Statement.{statement}
 use Rattle.building.proofs.rounds.best_in_row.Tie as tie
@@ -36,7 +36,7 @@ element-copy-out-f c = omega arith
 saves-requires : tie.Need-saves-requires Inv-loop μ-loop
 saves-requires c κs =
     let a = c .before .before .before .before .before in
-    (sound-at (a .args .t1) (a .pre .0) (a .args .i) blank (a .pre .1), sound-at (a .args .t1) (a .pre .0) (c .before .before .loop .j) blank (omega arith))
+    (entry-sound (a .args .t1) (a .pre .0) (a .args .i) noEntry (a .pre .1), entry-sound (a .args .t1) (a .pre .0) (c .before .before .loop .j) noEntry (omega arith))
 
 add-j-2 : tie.Need-add-j-2 Inv-loop μ-loop
 add-j-2 c = omega arith

@@ -1,6 +1,6 @@
 -- `cut_largest` meets its contract: the cut is put where the entry with most steps stands.
 use native.Mathlib.Omega.{arith}
-use Rattle.settling.specs.Held.{blank, sound-at}
+use Rattle.shapes.specs.Tables.{noEntry, entry-sound}
 use Rattle.building.specs.Largest.{cut-empty, cut-there, cut-sound}
 use borrow.Author.Needs.{needs}
 use Rattle.building.proofs.rounds.cut_largest.Statement.{statement}
@@ -21,7 +21,7 @@ element-copy-out-e c = omega arith
 cut-requires : tie.Need-cut-requires
 cut-requires c κs =
     let a = c .before .before .before in
-    sound-at (a .args .t1) (a .pre) (c .before .largest .result) blank (c .before .largest .ensures .1)
+    entry-sound (a .args .t1) (a .pre) (c .before .largest .result) noEntry (c .before .largest .ensures .1)
 
 mul-e-2 : tie.Need-mul-e-2
 mul-e-2 c = omega arith

@@ -1,7 +1,7 @@
 -- `merge_or_cut` meets its contract: the pair found is the definition's, and so is the merge, or the cut.
 use mathlib.Core.Path.{_∙_}
 use native.Mathlib.Omega.{arith}
-use Rattle.settling.specs.Held.{blank, sound-at}
+use Rattle.shapes.specs.Tables.{noEntry, entry-sound}
 use Rattle.building.specs.Changing.{change-cut, found-there, change-merge}
 use borrow.Author.Needs.{needs}
 use Rattle.building.proofs.rounds.merge_or_cut.Statement.{statement}
@@ -52,8 +52,8 @@ merge-requires c κs =
     let a = c .before .before .before .before .before in
     let b = c .before .before .before .before .best-pair in
     let h = found-there (a .args .t1) (b .result) (a .pre) (b .ensures) (c .before .before .if1 .left) in
-    let one = sound-at (a .args .t1) (a .pre) (b .result .i) blank (h .0) in
-    let other = sound-at (a .args .t1) (a .pre) (b .result .j) blank (h .1) in
+    let one = entry-sound (a .args .t1) (a .pre) (b .result .i) noEntry (h .0) in
+    let other = entry-sound (a .args .t1) (a .pre) (b .result .j) noEntry (h .1) in
     search needs
 
 join-at-requires : tie.Need-join-at-requires

@@ -1,6 +1,6 @@
 -- `join_at` meets its contract: both sets of members stand at i, and j is removed.
 use mathlib.Core.Path.{_∙_}
-use Rattle.settling.specs.Held.{put-sound}
+use Rattle.settling.specs.Placing.{put-sound}
 use Rattle.settling.specs.Joining.{both-joined}
 use borrow.Author.Needs.{needs}
 use Rattle.settling.proofs.entries.join_at.Statement.{statement}

@@ -1,10 +1,10 @@
--- `steps_together` meets its contract: the steps of the entries passed are added up.
+-- `shapes::steps_together` meets its contract: the steps of the entries passed are added up.
 use Prim.Native.Nat.{_-_}
 use native.Mathlib.Omega.{arith}
-use Rattle.settling.specs.Held.{blank, sound-at}
-use Rattle.settling.specs.Summing.{Summed, sum-starts, sum-goes-on, sum-ends}
-use Rattle.settling.proofs.entries.steps_together.Statement.{statement}
-use Rattle.settling.proofs.entries.steps_together.Tie as tie
+use Rattle.shapes.specs.Tables.{noEntry, entry-sound}
+use Rattle.shapes.specs.Summing.{Summed, sum-starts, sum-goes-on, sum-ends}
+use Rattle.shapes.proofs.steps_together.Statement.{statement}
+use Rattle.shapes.proofs.steps_together.Tie as tie
 
 abbrev Inv-loop : tie.InvT-loop
 Inv-loop t n₀ i₀ n i = Summed t i n
@@ -25,7 +25,7 @@ add-n : tie.Need-add-n Inv-loop μ-loop
 add-n c =
     let l = c .before .before .before .before .loop in
     let a = c .before .before .before .before .before in
-    omega (arith, sound-at (a .args .t1) (a .pre) (l .i) blank (omega arith) .few)
+    omega (arith, entry-sound (a .args .t1) (a .pre) (l .i) noEntry (omega arith) .few)
 
 add-i : tie.Need-add-i Inv-loop μ-loop
 add-i c = omega arith
