@@ -22,7 +22,7 @@ use tables::entry_at;
 ghost use mathlib.Core.Path.{_≡_};
 ghost use Prim.Native.Nat.{_^_, _<_};
 ghost use Rattle.meaning.specs.Satisfying.{satisfies};
-ghost use Rattle.meaning.specs.Routing.{plainRoute, shedsIn, lowestShed};
+ghost use Rattle.meaning.specs.Routing.{plainRoute};
 ghost use Rattle.meaning.specs.Calls.{matchesAnswer, plainAnswer, tableAnswer};
 ghost use Rattle.shapes.specs.Shapes.{nodesAt, entryOf, patternOf, SoundPattern};
 ghost use Rattle.reading.specs.Places.{sheetAt};
@@ -39,20 +39,6 @@ ghost use Rattle.routing.specs.Tabling.{memberTried, askMembers, askEntr
 struct Route {
     set: u64,
     tried: usize,
-}
-
-// How many sheds get a notice.
-pub fn sheds(set: u64) -> u32
-    ensures { λ r. ⌜ r ≡ shedsIn set ⌝ }
-{
-    u64::count_ones(set)
-}
-
-// The lowest shed, 64 when there is none.
-pub fn lowest_shed(set: u64) -> u32
-    ensures { λ r. ⌜ r ≡ lowestShed set ⌝ }
-{
-    u64::trailing_zeros(set)
 }
 
 // The set, with subscription i in it where the answer is yes.

@@ -1,8 +1,8 @@
--- `routing::lowest_shed` meets its contract: the trailing zeros.
+-- `sheds::lowest_shed` meets its contract: the trailing zeros.
 use mathlib.Core.Path.{refl}
 use Rattle.meaning.specs.Routing.{lowestShed}
-use Rattle.routing.proofs.lowest_shed.Statement.{statement}
-use Rattle.routing.proofs.lowest_shed.Tie as tie
+use Rattle.sheds.proofs.lowest_shed.Statement.{statement}
+use Rattle.sheds.proofs.lowest_shed.Tie as tie
 
 returns : tie.Need-returns
 unfolding lowestShed
