@@ -1,5 +1,5 @@
 -- Documents judged by places are documents as the paper reads them, and their nodes stand where the places say.
-use Prim.Native.Nat.{ℕ, zero, suc, _+_, _*_}
+use Prim.Native.Nat.{ℕ, zero, suc, _+_, _*_, _≤_, _<_}
 use mathlib.Core.Path.{_≡_, refl, sym, ap, _∙_}
 use mathlib.Core.Bool.{_&&_}
 use mathlib.Core.List.{List, _∷_}
@@ -7,6 +7,7 @@ use lib.Dec.{leb, ltb}
 use lib.ListN.{length, getD, drop}
 use native.Mathlib.Omega.{arith}
 use native.Mathlib.Nat.{add-zero}
+use borrow.Author.Tests.{ltb-true}
 use native.Mathlib.Numerals.{add-one}
 use Rattle.base.specs.Choice.{pick}
 use Rattle.base.specs.Loops.{andThen, run}
@@ -41,8 +42,8 @@ module _ (d : List ℕ) (known : ℕ) where
   unfolding aNode nodePlace nodeLabel pairAt _>>=_ _>>_ give answer
   node-read i x = simp (answer-pick, then-pair, then-byte, then-unless, pick-both)
 
-  -- the place after it
-  node-leads : (i x y : ℕ) → nodePlace d known i x ≡ At y → y ≡ x + 3
+  -- it ends within the bytes, three further on
+  pub node-leads : (i x y : ℕ) → nodePlace d known i x ≡ At y → (y ≡ x + 3) × (y ≤ length d)
   unfolding nodePlace nodeLabel
   node-leads i x y h =
       let a = passed (ltb x (length d)) _ 1 y h in
@@ -52,13 +53,14 @@ module _ (d : List ℕ) (known : ℕ) where
       let f = passed (leb 1 (getD d (x + 2) 0)) _ 8 y (e .1) in
       let g = passed (leb (getD d (x + 2) 0) known) _ 8 y (f .1) in
       let q : y ≡ x + 2 + 1 = cc (g .1) in
-      omega arith
+      let within : x + 2 < length d = ltb-true (x + 2) (length d) (e .0) in
+      (omega arith, omega arith)
 
   -- n nodes from a place on, after i others
   pub nodes-read : (n i x : ℕ) → nodes known n (i + 1) (drop x d) ≡ answer d (nodesAt d x n) (run (nodePlace d known) n i x)
   unfolding nodes nodesAt run _>>=_ give answer
   nodes-read zero i x = refl
-  nodes-read (suc n) i x = rw (node-read i x) (then-answer d (nodeAt x) (nodesAt d x (suc n)) (nodePlace d known i x) _ (λ y. run (nodePlace d known) n (i + 1) y) (λ y e. turn y (node-leads i x y e) (nodes-read n (i + 1) y)))
+  nodes-read (suc n) i x = rw (node-read i x) (then-answer d (nodeAt x) (nodesAt d x (suc n)) (nodePlace d known i x) _ (λ y. run (nodePlace d known) n (i + 1) y) (λ y e. turn y (node-leads i x y e .0) (nodes-read n (i + 1) y)))
     where
       turn : (y : ℕ) → y ≡ x + 3
           → nodes known n (i + 1 + 1) (drop y d) ≡ answer d (nodesAt d y n) (run (nodePlace d known) n (i + 1) y)

@@ -2,16 +2,13 @@
 use Prim.Native.Nat.{ℕ, _+_, _*_, _-_}
 use mathlib.Core.List.{List}
 use lib.Dec.{leb, ltb}
-use lib.ListN.{length, getD, replicate}
+use lib.ListN.{length, getD}
 use Rattle.base.specs.Choice.{pick}
 use Rattle.base.specs.Standing.{standing}
+use Rattle.shapes.specs.Shapes.{noSteps}
 use Rattle.shapes.specs.declared.Pattern.{Pattern}
 use Rattle.patterns.specs.declared.Subscriptions.{Subscriptions}
 use Rattle.reading.specs.Places.{stepsAt, afterPattern, patternCountAt}
-
--- the pattern without steps
-unfoldable pub noSteps : Pattern
-noSteps = record { count = 0; steps = replicate 16 (record { parent = 0; axis = 0; label = 0 }) }
 
 -- the pattern at x: its steps and, behind them, what follows in the bytes; none where the count or the bytes don't allow it
 unfoldable pub patternAt : List ℕ → ℕ → Pattern

@@ -3,11 +3,12 @@ use labels::after_labels;
 use meaning::Step;
 use places::byte_at;
 use shapes::Pattern;
+use shapes::no_steps;
 ghost use mathlib.Core.Path.{_≡_};
 ghost use Prim.Native.Nat.{_+_, _*_, _^_, _≤_, _<_};
 ghost use lib.ListN.{length};
 ghost use Rattle.reading.specs.Places.{stepAt, stepsAt, afterPattern};
-ghost use Rattle.patterns.specs.Taken.{noSteps, patternAt, patternPlaces, subscriptionsOf};
+ghost use Rattle.patterns.specs.Taken.{patternAt, patternPlaces, subscriptionsOf};
 
 // How many subscriptions a sheet has, and the place of each; behind those, the places go on in the same way.
 pub struct Subscriptions {
@@ -50,33 +51,19 @@ fn steps_at(s: &[u8], p: usize) -> [Step; 16]
     steps
 }
 
-// The pattern without steps.
-fn none() -> Pattern
-    ensures { λ r. ⌜ r ≡ noSteps ⌝ }
-{
-    Pattern {
-        count: 0,
-        steps: [Step {
-            parent: 0,
-            axis: 0,
-            label: 0,
-        }; 16],
-    }
-}
-
 // The pattern at x, without steps where the count is over 16 or bytes are missing.
 pub fn pattern_at(s: &[u8], x: usize) -> Pattern
     ensures { λ r. ⌜ r ≡ patternAt (now (s .entry)) x ⌝ }
 {
     if s.len() <= x {
-        return none();
+        return no_steps();
     }
     let n = byte_at(s, x);
     if 16 < n {
-        return none();
+        return no_steps();
     }
     if s.len() - (x + 1) < 3 * n {
-        return none();
+        return no_steps();
     }
     Pattern {
         count: n,

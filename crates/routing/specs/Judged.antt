@@ -8,7 +8,7 @@ use lib.Dec.{leb, ltb}
 use lib.ListN.{length, getD, drop}
 use Rattle.base.specs.Standing.{placeAfter, run-leads, run-keeps}
 use Rattle.base.specs.declared.Cur.the-variants.{At}
-use Rattle.meaning.specs.Sections.{Sheet, sheet, Document, document, nodeParent}
+use Rattle.meaning.specs.Sections.{Sheet, sheet, Document, document}
 use Rattle.meaning.specs.Satisfying.{parentsOf}
 use Rattle.meaning.specs.Calls.{judged}
 use Rattle.shapes.specs.Shapes.{nodesAt}
@@ -21,8 +21,8 @@ use Rattle.labels.specs.Judging.{labelsPlace}
 use Rattle.places.specs.Answer.{answer, passed, passed-on}
 use Rattle.labels.specs.LabelsRead.{labels-lead}
 use Rattle.reading.specs.Judged.{reached, judged-answer, sheet-judged, reached-twice, SheetStands, sheet-stands}
-use Rattle.documents.specs.Judging.{nodeLabel, nodePlace, nodesPlace, documentPlace, bothPlace, nodeCountAt, documentAt}
-use Rattle.documents.specs.DocumentRead.{document-read}
+use Rattle.documents.specs.Judging.{nodePlace, nodesPlace, documentPlace, bothPlace, nodeCountAt, documentAt}
+use Rattle.documents.specs.DocumentRead.{node-leads, document-read}
 
 module _ {B : Type 0} (s d : List ℕ) (refuse : ℕ → B) where
   -- a document beside its sheet is answered by its place
@@ -42,20 +42,6 @@ pub record NodesStand (d : List ℕ) (at n : ℕ) : Type 0 where
   pub few : n ≤ 1024
   pub inside : at + 3 * n ≤ length d
   pub rising : Rising (parentsOf (nodesAt d at n))
-
--- a node ends within the bytes, three further on
-node-leads : (d : List ℕ) (known i x y : ℕ) → nodePlace d known i x ≡ At y → (y ≡ x + 3) × (y ≤ length d)
-unfolding nodePlace nodeLabel
-node-leads d known i x y h =
-    let a = passed (ltb x (length d)) _ 1 y h in
-    let b = passed (ltb (x + 1) (length d)) _ 1 y (a .1) in
-    let c = passed (nodeParent (i + 1) (pairAt d x)) _ 6 y (b .1) in
-    let e = passed (ltb (x + 2) (length d)) _ 1 y (c .1) in
-    let f = passed (leb 1 (getD d (x + 2) 0)) _ 8 y (e .1) in
-    let g = passed (leb (getD d (x + 2) 0) known) _ 8 y (f .1) in
-    let q : y ≡ x + 2 + 1 = cc (g .1) in
-    let within : x + 2 < length d = ltb-true (x + 2) (length d) (e .0) in
-    (omega arith, omega arith)
 
 -- n nodes further on
 threes : (x n : ℕ) → placeAfter (λ y. y + 3) x n ≡ x + 3 * n

@@ -1,10 +1,11 @@
 -- What a pattern, an entry and a table by value stand for, and what is so of each that the hub makes; nodes as they stand in bytes.
 use Prim.Native.Nat.{ℕ, zero, suc, _+_, _*_, _≤_}
-use mathlib.Core.Path.{_≡_}
+use mathlib.Core.Path.{_≡_, refl}
 use mathlib.Core.List.{List, [], _∷_, map, List·Memᴰ}
-use lib.ListN.{length, getD, take}
+use native.Mathlib.Omega.{arith}
+use lib.ListN.{length, getD, take, replicate}
 use Rattle.meaning.specs.Numbers.{mostSteps, mostEntries}
-use Rattle.meaning.specs.Forest.{Forest, forest, stepsOf}
+use Rattle.meaning.specs.Forest.{Forest, none, childrenIn, forest, stepsFrom, stepsOf}
 use Rattle.meaning.specs.Sections.{Node}
 use Rattle.meaning.specs.Sections
 use Rattle.meaning.specs.declared.Step.{Step}
@@ -25,6 +26,15 @@ pub record SoundPattern (p : Pattern) : Type 0 where
   pub few : p .count ≤ mostSteps
   pub full : length (p .steps) ≡ 16
   pub written : stepsOf (patternOf p) ≡ stepsIn p
+
+-- the pattern without steps
+unfoldable pub noSteps : Pattern
+noSteps = record { count = 0; steps = replicate 16 (record { parent = 0; axis = 0; label = 0 }) }
+
+-- it stands for no step, and is well formed
+pub no-steps-stand : (p : Pattern) → p ≡ noSteps → (patternOf p ≡ none) × SoundPattern p
+unfolding noSteps patternOf stepsIn forest childrenIn stepsOf stepsFrom
+no-steps-stand p e = rw e (refl, record { few = omega arith; full = refl; written = refl })
 
 unfoldable pub entryOf : Entry → Sections.Entry
 entryOf e = record { members = e .members; pattern = patternOf (e .pattern) }

@@ -2,9 +2,8 @@
 use meaning::Step;
 ghost use mathlib.Core.Path.{_≡_};
 ghost use Prim.Native.Nat.{_≤_};
-ghost use Rattle.meaning.specs.Forest.{none};
 ghost use Rattle.meaning.specs.Building.{stepsTogether};
-ghost use Rattle.shapes.specs.Shapes.{patternOf, SoundPattern, tableOf, SoundTable};
+ghost use Rattle.shapes.specs.Shapes.{noSteps, tableOf, SoundTable};
 
 // A pattern: the first `count` of its steps, in preorder.
 pub struct Pattern {
@@ -26,7 +25,7 @@ pub struct Table {
 
 // The pattern without steps.
 pub fn no_steps() -> Pattern
-    ensures { λ r. ⌜ (patternOf r ≡ none) × SoundPattern r ⌝ }
+    ensures { λ r. ⌜ r ≡ noSteps ⌝ }
 {
     Pattern {
         count: 0,

@@ -10,8 +10,8 @@ use lib.ListN.{length, getD, drop}
 use Rattle.base.specs.Choice.{pick}
 use Rattle.base.specs.declared.Cur.the-variants.{At}
 use Rattle.meaning.specs.Reader.{read}
-use Rattle.meaning.specs.Forest.{none}
 use Rattle.meaning.specs.Sections.{Entry, table}
+use Rattle.meaning.specs.Building.{noEntry}
 use Rattle.shapes.specs.Shapes.{entryOf, SoundPattern}
 use Rattle.shapes.specs.declared.Entry as shapes
 use Rattle.reading.specs.Places.{sheetAt}
@@ -50,10 +50,6 @@ entries-stand s t y v stands h e =
       counted = all;
       taken = λ i d l. rw e (entry-taken s t (sheetAt s) (tableAt t) (stands .left) (drop y t) (stands .was-read) was i d (omega (arith, all)));
     }
-
--- an entry behind the last
-unfoldable pub noEntry : Entry
-noEntry = record { members = 0; pattern = none }
 
 -- the entry by value at the i-th place is the i-th entry, its pattern well formed
 pub entry-here : (t : List ℕ) (v : Entries) → EntriesStand t v → (i : ℕ) (e : shapes.Entry) → i < v .count → e ≡ entryAt t (getD (v .places) i 0) → (entryOf e ≡ getD (tableAt t) i noEntry) × SoundPattern (e .pattern)

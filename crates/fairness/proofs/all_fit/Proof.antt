@@ -7,8 +7,9 @@ use borrow.Author.Tests.{not-true, not-false}
 use lib.ListN.{drop}
 use Rattle.base.specs.Lists.{every}
 use Rattle.base.specs.Along.{every-goes-on, every-stops, every-ends}
+use Rattle.meaning.specs.Building.{noEntry}
 use Rattle.tables.specs.Judging.{entryAt}
-use Rattle.tables.specs.Standing.{tableAt, noEntry}
+use Rattle.tables.specs.Standing.{tableAt}
 use Rattle.fairness.specs.Each.{isFit, fit-here}
 use Rattle.fairness.proofs.all_fit.Statement.{statement}
 use Rattle.fairness.proofs.all_fit.Tie as tie

@@ -6,7 +6,8 @@ use lib.Dec.{eqb}
 use lib.ListN.{drop}
 use Rattle.base.specs.Along.{foldAlong, along-goes-on, along-ends}
 use Rattle.shapes.specs.Shapes.{patternOf}
-use Rattle.tables.specs.Standing.{tableAt, noEntry}
+use Rattle.meaning.specs.Building.{noEntry}
+use Rattle.tables.specs.Standing.{tableAt}
 use Rattle.fairness.specs.Weighing.{weighed, one-weighed}
 use Rattle.fairness.proofs.stands.Statement.{statement}
 use Rattle.fairness.proofs.stands.Tie as tie

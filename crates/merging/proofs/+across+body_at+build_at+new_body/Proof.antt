@@ -5,7 +5,7 @@ use native.Mathlib.Omega.{arith}
 use borrow.Author.Needs.{needs}
 use Rattle.meaning.specs.Covering.{stepAt}
 use Rattle.meaning.specs.Merging.{Body, nothing, commonLabel, through}
-use Rattle.shapes.specs.Shapes.{patternOf, stepsIn, SoundPattern}
+use Rattle.shapes.specs.Shapes.{no-steps-stand, patternOf, stepsIn, SoundPattern}
 use Rattle.shapes.specs.Steps.{stepIn, step-number}
 use Rattle.shapes.specs.Holding.{holds-none}
 use Rattle.laws.specs.Children.{childrenOf}
@@ -469,7 +469,7 @@ build-at-loop-holds : (t : ℕ) → build-at-lts.Need-loop-holds (
 build-at-loop-holds t c =
     let a = c .before .args in
     let h = c .before .pre .1 in
-    let e = c .no-steps .ensures in (
+    let e = no-steps-stand _ (c .no-steps .ensures) in (
       h .0,
       omega arith,
       h .1,

@@ -3,7 +3,7 @@ use Prim.Native.Nat.{_-_}
 use native.Mathlib.Omega.{arith}
 use borrow.Author.Needs.{needs}
 use borrow.Author.Tests.{not-true, not-false}
-use Rattle.shapes.specs.Shapes.{patternOf, SoundPattern}
+use Rattle.shapes.specs.Shapes.{no-steps-stand, patternOf, SoundPattern}
 use Rattle.shapes.specs.Steps.{stepIn}
 use Rattle.offering.specs.Branches.{copied-beside}
 use Rattle.offering.specs.Staying.{branchAt, Left, turn, left-starts, branch-fits, left-goes, left-remains, left-done}
@@ -20,7 +20,7 @@ no-steps-requires : tie.Need-no-steps-requires Inv-loop μ-loop
 no-steps-requires c κs = search needs
 
 loop-holds : tie.Need-loop-holds Inv-loop μ-loop
-loop-holds c = (left-starts (c .before .args .t1) (c .before .pre .0) (patternOf (c .before .args .c)) (c .no-steps .result) (c .no-steps .ensures), c .before .pre .0, c .before .pre .1)
+loop-holds c = (left-starts (c .before .args .t1) (c .before .pre .0) (patternOf (c .before .args .c)) (c .no-steps .result) (no-steps-stand _ (c .no-steps .ensures)), c .before .pre .0, c .before .pre .1)
 
 mul-s : tie.Need-mul-s Inv-loop μ-loop
 mul-s c = omega arith

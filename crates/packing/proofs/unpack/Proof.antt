@@ -6,7 +6,7 @@ use Rattle.meaning.specs.declared.Step.{Step}
 use native.Mathlib.Omega.{arith}
 use lib.ListN.{length, getD, set}
 use borrow.Author.Needs.{needs}
-use Rattle.shapes.specs.Shapes.{stepsIn}
+use Rattle.shapes.specs.Shapes.{no-steps-stand, stepsIn}
 use Rattle.shapes.specs.Holding.{holds-none, holding, one-more}
 use Rattle.packing.specs.Packing.{stepOf, packed, withPacked, unpack-starts, unpack-step, unpack-done}
 use Rattle.packing.proofs.unpack.Statement.{statement}
@@ -29,8 +29,9 @@ cast-n c = search needs
 
 loop-holds : tie.Need-loop-holds Inv-loop μ-loop
 loop-holds c =
-    let e = holds-none (c .no-steps .result) (c .no-steps .ensures) in
-    (e .0, omega arith, refl, c .before .pre, c .no-steps .ensures .1 .full, unpack-starts (c .before .args .t1) (stepsIn (c .no-steps .result)) (e .1))
+    let h = no-steps-stand _ (c .no-steps .ensures) in
+    let e = holds-none (c .no-steps .result) h in
+    (e .0, omega arith, refl, c .before .pre, h .1 .full, unpack-starts (c .before .args .t1) (stepsIn (c .no-steps .result)) (e .1))
 
 mul-t11 : tie.Need-mul-t11 Inv-loop μ-loop
 mul-t11 c = omega arith

@@ -5,8 +5,8 @@ use borrow.Author.Needs.{needs}
 use Rattle.patterns.proofs.pattern_at.Statement.{statement}
 use Rattle.patterns.proofs.pattern_at.Tie as tie
 
-none-requires : tie.Need-none-requires
-none-requires c κs = search needs
+no-steps-requires : tie.Need-no-steps-requires
+no-steps-requires c κs = search needs
 
 returns : tie.Need-returns
 unfolding patternAt
@@ -15,8 +15,8 @@ returns c = search picks depth 15
 byte-at-requires : tie.Need-byte-at-requires
 byte-at-requires c κs = search needs
 
-none-requires-2 : tie.Need-none-requires-2
-none-requires-2 c κs = search needs
+no-steps-requires-2 : tie.Need-no-steps-requires-2
+no-steps-requires-2 c κs = search needs
 
 returns-2 : tie.Need-returns-2
 unfolding patternAt
@@ -31,8 +31,8 @@ sub-if3 c = search needs
 mul-if3 : tie.Need-mul-if3
 mul-if3 c = search needs
 
-none-requires-3 : tie.Need-none-requires-3
-none-requires-3 c κs = search needs
+no-steps-requires-3 : tie.Need-no-steps-requires-3
+no-steps-requires-3 c κs = search needs
 
 returns-3 : tie.Need-returns-3
 unfolding patternAt
@@ -52,15 +52,15 @@ pub pattern-at-spec : {M : Type 1} → statement M
 pattern-at-spec =
     tie.close
     (tie.spec
-    none-requires
+    no-steps-requires
     returns
     byte-at-requires
-    none-requires-2
+    no-steps-requires-2
     returns-2
     add-if3
     sub-if3
     mul-if3
-    none-requires-3
+    no-steps-requires-3
     returns-3
     add-steps-at
     steps-at-requires

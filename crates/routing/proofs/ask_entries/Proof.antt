@@ -7,7 +7,8 @@ use lib.ListN.{drop}
 use Rattle.base.specs.Along.{foldAlong, along-ends}
 use Rattle.shapes.specs.Shapes.{nodesAt}
 use Rattle.reading.specs.Places.{sheetAt}
-use Rattle.tables.specs.Standing.{tableAt, noEntry, entry-here}
+use Rattle.meaning.specs.Building.{noEntry}
+use Rattle.tables.specs.Standing.{tableAt, entry-here}
 use Rattle.routing.specs.Tabling.{start, askEntry, routeBy, entry-tried-few, entries-go-on}
 use Rattle.routing.proofs.ask_entries.Statement.{statement}
 use Rattle.routing.proofs.ask_entries.Tie as tie
