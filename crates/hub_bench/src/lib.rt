@@ -2,9 +2,8 @@
 use meaning::Asked;
 use meaning::Built;
 use meaning::Merged;
-ghost use mathlib.Core.Path.{_≡_};
-ghost use Rattle.meaning.specs.Calls.{coversAnswer, mergeAnswer, mergeWriting, buildAnswer, buildWriting, withRoom, after};
-ghost use Rattle.hub_bench.specs.Given.{GivesAsked, GivesMerge, GivesBuild};
+ghost use Rattle.meaning.specs.Given.{byNumber};
+ghost use Rattle.meaning.specs.Promises.{CoversGives, MergeGives, BuildGives};
 
 // Whether one subscription covers another: the number, and yes or no.
 #[repr(C)]
@@ -31,7 +30,7 @@ pub struct Building {
 
 #[no_mangle]
 pub extern "C" fn bench_covers(s: &[u8], i: u64, j: u64) -> Covering
-    ensures { λ r. ⌜ GivesAsked (coversAnswer (now (s .entry)) i j) r ⌝ }
+    ensures { λ r. ⌜ CoversGives (now (s .entry)) i j (byNumber (r .number) (r .said)) ⌝ }
 {
     match hub::covers(s, i, j) {
         Asked::Refused(n) => Covering {
@@ -47,7 +46,7 @@ pub extern "C" fn bench_covers(s: &[u8], i: u64, j: u64) -> Covering
 
 #[no_mangle]
 pub extern "C" fn bench_merge(s: &[u8], i: u64, j: u64, out: &mut [u8]) -> Merging
-    ensures { λ r. ⌜ GivesMerge (mergeAnswer (withRoom (now (out .entry)) (mergeWriting (now (s .entry)) i j))) r × (now (out .exit) ≡ after (now (out .entry)) (withRoom (now (out .entry)) (mergeWriting (now (s .entry)) i j))) ⌝ }
+    ensures { λ r. ⌜ MergeGives (now (s .entry)) i j (now (out .entry)) (byNumber (r .number) (record { length = r .length; clipped = r .clipped })) (now (out .exit)) ⌝ }
 {
     match hub::merge(s, i, j, out) {
         Merged::Refused(n) => Merging {
@@ -65,7 +64,7 @@ pub extern "C" fn bench_merge(s: &[u8], i: u64, j: u64, out: &mut [u8]) -> Mergi
 
 #[no_mangle]
 pub extern "C" fn bench_build(s: &[u8], limit: u16, out: &mut [u8]) -> Building
-    ensures { λ r. ⌜ GivesBuild (buildAnswer (withRoom (now (out .entry)) (buildWriting (now (s .entry)) limit))) r × (now (out .exit) ≡ after (now (out .entry)) (withRoom (now (out .entry)) (buildWriting (now (s .entry)) limit))) ⌝ }
+    ensures { λ r. ⌜ BuildGives (now (s .entry)) limit (now (out .entry)) (byNumber (r .number) (record { length = r .length; rounds = r .rounds })) (now (out .exit)) ⌝ }
 {
     match hub::build(s, limit, out) {
         Built::Refused(n) => Building {

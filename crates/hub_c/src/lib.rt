@@ -1,9 +1,8 @@
 // The calls of the print server in C: the sheet check, the plain route and the route by a table (include/hub.h).
 use meaning::Routed;
 use meaning::Tabled;
-ghost use mathlib.Core.Path.{_≡_};
-ghost use Rattle.meaning.specs.Calls.{sheetNumber, plainAnswer, tableAnswer};
-ghost use Rattle.hub_c.specs.Given.{GivesPlain, GivesTable};
+ghost use Rattle.meaning.specs.Given.{byNumber};
+ghost use Rattle.meaning.specs.Promises.{SheetCheckGives, PlainRouteGives, TableRouteGives};
 
 // The plain route: the number, and the delivery set.
 #[repr(C)]
@@ -22,14 +21,14 @@ pub struct TableRoute {
 
 #[no_mangle]
 pub extern "C" fn hub_sheet_check(s: &[u8]) -> u8
-    ensures { λ r. ⌜ r ≡ sheetNumber (now (s .entry)) ⌝ }
+    ensures { λ r. ⌜ SheetCheckGives (now (s .entry)) r ⌝ }
 {
     hub::sheet_check(s)
 }
 
 #[no_mangle]
 pub extern "C" fn hub_plain_route(s: &[u8], d: &[u8]) -> PlainRoute
-    ensures { λ r. ⌜ GivesPlain (plainAnswer (now (s .entry)) (now (d .entry))) r ⌝ }
+    ensures { λ r. ⌜ PlainRouteGives (now (s .entry)) (now (d .entry)) (byNumber (r .number) (r .delivered)) ⌝ }
 {
     match hub::plain_route(s, d) {
         Routed::Refused(n) => PlainRoute {
@@ -45,7 +44,7 @@ pub extern "C" fn hub_plain_route(s: &[u8], d: &[u8]) -> PlainRoute
 
 #[no_mangle]
 pub extern "C" fn hub_table_route(s: &[u8], t: &[u8], d: &[u8]) -> TableRoute
-    ensures { λ r. ⌜ GivesTable (tableAnswer (now (s .entry)) (now (t .entry)) (now (d .entry))) r ⌝ }
+    ensures { λ r. ⌜ TableRouteGives (now (s .entry)) (now (t .entry)) (now (d .entry)) (byNumber (r .number) (record { set = r .delivered; tried = r .tried })) ⌝ }
 {
     match hub::table_route(s, t, d) {
         Tabled::Refused(n) => TableRoute {

@@ -34,6 +34,8 @@ pub mod Fairness
 pub mod Tables
 -- what was read, and what was written
 pub mod Readers
+pub mod Refusals
+pub mod Answers
 pub mod Labels
 pub mod Preorder
 pub mod Sound

@@ -1,7 +1,7 @@
 -- The hub's calls: what each answers for any bytes and numbers. The sheet is judged first, then the table (12 last), the
--- document, numbers asked for, and room. For each answer that is an enum: the paper's number and values in each case.
+-- document, numbers asked for, and room.
 use Prim.Native.Nat.{ℕ}
-use mathlib.Core.Bool.{Bool, false, _&&_}
+use mathlib.Core.Bool.{Bool, _&&_}
 use mathlib.Core.List.{List, [], _++_}
 use lib.Dec.{leb, ltb}
 use lib.ListN.{length, getD, drop}
@@ -75,14 +75,6 @@ coversAnswer s i j =
     judged (sheet s) asked.Refused (λ sh.
     pick (isSubscription sh i && isSubscription sh j) (asked.Said (covers (subscription sh i) (subscription sh j))) (asked.Refused notThere))
 
-unfoldable pub askedNumber : Asked → ℕ
-askedNumber (asked.Refused n) = n
-askedNumber (asked.Said yes′) = done
-
-unfoldable pub askedSaid : Asked → Bool
-askedSaid (asked.Refused n) = false
-askedSaid (asked.Said yes′) = yes′
-
 -- ---- writing into a lent output
 
 -- what is to be written, and the value that comes with it, or a refusal
@@ -113,18 +105,6 @@ unfoldable pub mergeAnswer : Writing Bool → Merged
 mergeAnswer (refuses n) = merged.Refused n
 mergeAnswer (writes clipped bs) = merged.Wrote (length bs) clipped
 
-unfoldable pub mergedNumber : Merged → ℕ
-mergedNumber (merged.Refused n) = n
-mergedNumber (merged.Wrote long clipped) = done
-
-unfoldable pub mergedLength : Merged → ℕ
-mergedLength (merged.Refused n) = 0
-mergedLength (merged.Wrote long clipped) = long
-
-unfoldable pub mergedClipped : Merged → Bool
-mergedClipped (merged.Refused n) = false
-mergedClipped (merged.Wrote long clipped) = clipped
-
 -- ---- the table built for a limit
 
 unfoldable pub buildWriting : List ℕ → ℕ → Writing ℕ
@@ -137,18 +117,6 @@ unfoldable pub buildAnswer : Writing ℕ → Built
 buildAnswer (refuses n) = built.Refused n
 buildAnswer (writes rounds bs) = built.Wrote (length bs) rounds
 
-unfoldable pub builtNumber : Built → ℕ
-builtNumber (built.Refused n) = n
-builtNumber (built.Wrote long rounds) = done
-
-unfoldable pub builtLength : Built → ℕ
-builtLength (built.Refused n) = 0
-builtLength (built.Wrote long rounds) = long
-
-unfoldable pub builtRounds : Built → ℕ
-builtRounds (built.Refused n) = 0
-builtRounds (built.Wrote long rounds) = rounds
-
 -- ---- the routes
 
 unfoldable pub plainAnswer : List ℕ → List ℕ → Routed
@@ -157,32 +125,12 @@ plainAnswer s d =
     judged (document sh d) routed.Refused (λ dc.
     routed.Delivered (plainRoute (dc .nodes) (sh .patterns))))
 
-unfoldable pub routedNumber : Routed → ℕ
-routedNumber (routed.Refused n) = n
-routedNumber (routed.Delivered sheds) = done
-
-unfoldable pub routedSet : Routed → ℕ
-routedSet (routed.Refused n) = 0
-routedSet (routed.Delivered sheds) = sheds
-
 unfoldable pub tableAnswer : List ℕ → List ℕ → List ℕ → Tabled
 tableAnswer s t d =
     judged (sheet s) tabled.Refused (λ sh.
     judged (fairTable sh t) tabled.Refused (λ es.
     judged (document sh d) tabled.Refused (λ dc.
     tabled.Delivered (tableRoute (dc .nodes) es (sh .patterns)) (tried (dc .nodes) es (sh .patterns)))))
-
-unfoldable pub tabledNumber : Tabled → ℕ
-tabledNumber (tabled.Refused n) = n
-tabledNumber (tabled.Delivered sheds asked) = done
-
-unfoldable pub tabledSet : Tabled → ℕ
-tabledSet (tabled.Refused n) = 0
-tabledSet (tabled.Delivered sheds asked) = sheds
-
-unfoldable pub tabledTried : Tabled → ℕ
-tabledTried (tabled.Refused n) = 0
-tabledTried (tabled.Delivered sheds asked) = asked
 
 -- ---- label bytes: the number, and the part, which is empty on a refusal
 

@@ -12,6 +12,9 @@ pub mod Routing
 pub mod LabelBytes
 pub mod Written
 pub mod Calls
+pub mod Given
+pub mod Promises
+pub mod Sharp
 pub mod Printing
 pub mod RoseBench
 pub mod Examples

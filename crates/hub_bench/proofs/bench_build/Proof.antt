@@ -1,6 +1,7 @@
--- `hub_bench::bench_build` meets its contract: it gives the number, the rounds and the length of each of the hub's answers.
-use Rattle.hub_bench.specs.Given.{build-refused, build-wrote}
+-- The build call for the benchmark gives the number, the rounds and the length of the hub's answer, and writes what it writes.
 use borrow.Author.Needs.{needs}
+use Rattle.meaning.specs.Given.{refusal, gives, builtGiven}
+use Rattle.laws.specs.Answers.{by-number, build-told}
 use Rattle.hub_bench.proofs.bench_build.Statement.{statement}
 use Rattle.hub_bench.proofs.bench_build.Tie as tie
 
@@ -17,13 +18,19 @@ same-length : tie.Need-same-length
 same-length c = search needs
 
 returns : tie.Need-returns
-returns c = (build-refused (c .before .n .given .1) (c .before .before .before .before .before .build .ensures .0), c .before .before .before .before .before .build .ensures .1)
+unfolding builtGiven refusal
+returns c =
+    let given = c .before .before .before .before .before .build .ensures in
+    record { answer = by-number builtGiven (build-told _ _ _) (c .before .n .given .1) (given .answer); output = given .output }
 
 same-length-2 : tie.Need-same-length-2
 same-length-2 c = search needs
 
 returns-2 : tie.Need-returns-2
-returns-2 c = (build-wrote (c .before .length .given .1) (c .before .before .before .before .before .build .ensures .0), c .before .before .before .before .before .build .ensures .1)
+unfolding builtGiven gives
+returns-2 c =
+    let given = c .before .before .before .before .before .build .ensures in
+    record { answer = by-number builtGiven (build-told _ _ _) (c .before .length .given .1) (given .answer); output = given .output }
 
 pub bench-build-spec : {M : Type 1} → statement M
 bench-build-spec =

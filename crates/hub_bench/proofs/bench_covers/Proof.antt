@@ -1,6 +1,7 @@
--- `hub_bench::bench_covers` meets its contract: it gives the number and the yes or no of each of the hub's answers.
-use Rattle.hub_bench.specs.Given.{asked-refused, asked-said}
+-- The covering call for the benchmark gives the number and the yes or no of the hub's answer.
 use borrow.Author.Needs.{needs}
+use Rattle.meaning.specs.Given.{refusal, gives, askedGiven}
+use Rattle.laws.specs.Answers.{by-number, covers-told}
 use Rattle.hub_bench.proofs.bench_covers.Statement.{statement}
 use Rattle.hub_bench.proofs.bench_covers.Tie as tie
 
@@ -14,10 +15,12 @@ enum-known-yes : tie.Need-enum-known-yes
 enum-known-yes c = search needs
 
 returns : tie.Need-returns
-returns c = asked-refused (c .before .n .given .1) (c .before .before .before .covers .ensures)
+unfolding askedGiven refusal
+returns c = by-number askedGiven (covers-told _ _ _) (c .before .n .given .1) (c .before .before .before .covers .ensures)
 
 returns-2 : tie.Need-returns-2
-returns-2 c = asked-said (c .before .yes .given .1) (c .before .before .before .covers .ensures)
+unfolding askedGiven gives
+returns-2 c = by-number askedGiven (covers-told _ _ _) (c .before .yes .given .1) (c .before .before .before .covers .ensures)
 
 pub bench-covers-spec : {M : Type 1} → statement M
 bench-covers-spec =

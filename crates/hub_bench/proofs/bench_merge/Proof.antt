@@ -1,6 +1,7 @@
--- `hub_bench::bench_merge` meets its contract: it gives the number, the mark and the length of each of the hub's answers.
-use Rattle.hub_bench.specs.Given.{merge-refused, merge-wrote}
+-- The merge call for the benchmark gives the number, the mark and the length of the hub's answer, and writes what it writes.
 use borrow.Author.Needs.{needs}
+use Rattle.meaning.specs.Given.{refusal, gives, mergedGiven}
+use Rattle.laws.specs.Answers.{by-number, merge-told}
 use Rattle.hub_bench.proofs.bench_merge.Statement.{statement}
 use Rattle.hub_bench.proofs.bench_merge.Tie as tie
 
@@ -17,13 +18,19 @@ same-length : tie.Need-same-length
 same-length c = search needs
 
 returns : tie.Need-returns
-returns c = (merge-refused (c .before .n .given .1) (c .before .before .before .before .before .merge .ensures .0), c .before .before .before .before .before .merge .ensures .1)
+unfolding mergedGiven refusal
+returns c =
+    let given = c .before .before .before .before .before .merge .ensures in
+    record { answer = by-number mergedGiven (merge-told _ _ _ _) (c .before .n .given .1) (given .answer); output = given .output }
 
 same-length-2 : tie.Need-same-length-2
 same-length-2 c = search needs
 
 returns-2 : tie.Need-returns-2
-returns-2 c = (merge-wrote (c .before .length .given .1) (c .before .before .before .before .before .merge .ensures .0), c .before .before .before .before .before .merge .ensures .1)
+unfolding mergedGiven gives
+returns-2 c =
+    let given = c .before .before .before .before .before .merge .ensures in
+    record { answer = by-number mergedGiven (merge-told _ _ _ _) (c .before .length .given .1) (given .answer); output = given .output }
 
 pub bench-merge-spec : {M : Type 1} → statement M
 bench-merge-spec =

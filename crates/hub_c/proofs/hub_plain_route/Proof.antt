@@ -1,20 +1,9 @@
--- The plain route for C gives the number and the set of each of the hub's answers.
-use mathlib.Core.Path.{_≡_, refl}
+-- The plain route for C gives the number and the set of the hub's answer; where it is refused the number is not 0.
 use borrow.Author.Needs.{needs}
-use Prim.Native.Nat.{ℕ}
-use Rattle.meaning.specs.Calls.{routedNumber, routedSet}
-use Rattle.meaning.specs.declared.Routed.{Routed}
-use Rattle.meaning.specs.declared.Routed.the-variants as routed
+use Rattle.meaning.specs.Given.{refusal, gives, routedGiven}
+use Rattle.laws.specs.Answers.{by-number, plain-route-told}
 use Rattle.hub_c.proofs.hub_plain_route.Statement.{statement}
 use Rattle.hub_c.proofs.hub_plain_route.Tie as tie
-
-refused : {r a : Routed} {n : ℕ} → r ≡ routed.Refused n → r ≡ a → (n ≡ routedNumber a) × (0 ≡ routedSet a)
-unfolding routedNumber routedSet
-refused h e = rw (← e, h) (refl, refl)
-
-delivered : {r a : Routed} {n : ℕ} → r ≡ routed.Delivered n → r ≡ a → (0 ≡ routedNumber a) × (n ≡ routedSet a)
-unfolding routedNumber routedSet
-delivered h e = rw (← e, h) (refl, refl)
 
 plain-route-requires : tie.Need-plain-route-requires
 plain-route-requires c κs = search needs
@@ -26,10 +15,12 @@ enum-known-set : tie.Need-enum-known-set
 enum-known-set c = search needs
 
 returns : tie.Need-returns
-returns c = refused (c .before .n .given .1) (c .before .before .before .plain-route .ensures)
+unfolding routedGiven refusal
+returns c = by-number routedGiven (plain-route-told _ _) (c .before .n .given .1) (c .before .before .before .plain-route .ensures)
 
 returns-2 : tie.Need-returns-2
-returns-2 c = delivered (c .before .set .given .1) (c .before .before .before .plain-route .ensures)
+unfolding routedGiven gives
+returns-2 c = by-number routedGiven (plain-route-told _ _) (c .before .set .given .1) (c .before .before .before .plain-route .ensures)
 
 pub hub-plain-route-spec : {M : Type 1} → statement M
 hub-plain-route-spec =

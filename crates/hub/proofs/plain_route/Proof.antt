@@ -1,0 +1,15 @@
+-- What the route gives is what its answer gives.
+use mathlib.Core.Path.{ap}
+use borrow.Author.Needs.{needs}
+use Rattle.meaning.specs.Given.{routedGiven}
+use Rattle.hub.proofs.plain_route.Statement.{statement}
+use Rattle.hub.proofs.plain_route.Tie as tie
+
+plain-route-requires : tie.Need-plain-route-requires
+plain-route-requires c κs = search needs
+
+returns : tie.Need-returns
+returns c = ap routedGiven (c .plain-route .ensures)
+
+pub plain-route-spec : {M : Type 1} → statement M
+plain-route-spec = tie.close (tie.spec plain-route-requires returns)

@@ -1,0 +1,23 @@
+-- The promises determine what the print server is given: any two routes that they allow are equal.
+use Prim.Native.Nat.{ℕ}
+use mathlib.Core.Path.{_≡_}
+use mathlib.Core.List.{List}
+use Rattle.meaning.specs.Given.{byNumber}
+use Rattle.meaning.specs.Promises.{PlainRouteGives, TableRouteGives}
+use Rattle.meaning.specs.Sharp.{only-one, by-number-tells}
+use Rattle.hub_c.specs.declared.PlainRoute.{PlainRoute}
+use Rattle.hub_c.specs.declared.TableRoute.{TableRoute}
+
+module _ (s d : List ℕ) where
+  pub plain-route-sharp : (x y : PlainRoute) → PlainRouteGives s d (byNumber (x .number) (x .delivered)) → PlainRouteGives s d (byNumber (y .number) (y .delivered)) → x ≡ y
+  plain-route-sharp x y e f =
+      let same = by-number-tells (x .number) (y .number) (x .delivered) (y .delivered) (only-one e f) in
+      λ i. record { number = same .0 i; delivered = same .1 i }
+
+  pub table-route-sharp : (t : List ℕ) (x y : TableRoute)
+      → TableRouteGives s t d (byNumber (x .number) (record { set = x .delivered; tried = x .tried }))
+      → TableRouteGives s t d (byNumber (y .number) (record { set = y .delivered; tried = y .tried }))
+      → x ≡ y
+  table-route-sharp t x y e f =
+      let same = by-number-tells (x .number) (y .number) (record { set = x .delivered; tried = x .tried }) (record { set = y .delivered; tried = y .tried }) (only-one e f) in
+      λ i. record { number = same .0 i; delivered = same .1 i .set; tried = same .1 i .tried }

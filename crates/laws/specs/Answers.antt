@@ -1,0 +1,266 @@
+-- What the number of an answer tells: 0 is given exactly where a call is not refused, so number 0 means that every part was
+-- read; and a refused call gives zeros or an empty part and leaves a lent output as found.
+use Prim.Native.Nat.{ℕ, zero, suc, _≤_}
+use mathlib.Core.Path.{_≡_, refl, sym, ap, _∙_}
+use mathlib.Core.Bool.{Bool, true, false, not, false≢true}
+use mathlib.Core.List.{List, []}
+use native.Mathlib.Omega.{arith}
+use borrow.Author.Tests.{ne-eqb, le-leb, leb-false}
+use lib.Dec.{eqb, leb}
+use lib.ListN.{length, List·getD-eq-default}
+use Rattle.base.specs.Choice.{pick}
+use Rattle.meaning.specs.Numbers.{done, noRoom, notThere}
+use Rattle.meaning.specs.Reader.{Reading, read, refused, numberOf}
+use Rattle.meaning.specs.Sections.{Sheet, sheet, Document, document}
+use Rattle.meaning.specs.LabelBytes.{labelsOf, isLabel, labelAt}
+use Rattle.meaning.specs.Calls.{judged, fairTable, Writing, refuses, writes, withRoom, after, mergeWriting, mergeAnswer, buildWriting, buildAnswer, plainAnswer, tableAnswer, matchesAnswer, coversAnswer, sheetNumber, documentNumber, tableNumber, labelNumber, labelPart}
+use Rattle.meaning.specs.Given.{Given, refusal, gives, byNumber, askedGiven, mergedGiven, builtGiven, routedGiven, tabledGiven}
+use Rattle.meaning.specs.declared.Asked.{Asked}
+use Rattle.meaning.specs.declared.Asked.the-variants as asked
+use Rattle.meaning.specs.declared.Merged.{Merged}
+use Rattle.meaning.specs.declared.Merged.the-variants as merged
+use Rattle.meaning.specs.declared.Built.{Built}
+use Rattle.meaning.specs.declared.Built.the-variants as built
+use Rattle.meaning.specs.declared.Routed.{Routed}
+use Rattle.meaning.specs.declared.Routed.the-variants as routed
+use Rattle.meaning.specs.declared.Tabled.{Tabled}
+use Rattle.meaning.specs.declared.Tabled.the-variants as tabled
+use Rattle.laws.specs.Refusals.{NotZero, sheet-numbered, document-numbered, fair-table-numbered}
+
+-- ---- 0 is given exactly where a call is not refused
+
+module _ {A : Type 0} where
+  -- refused exactly if the number is not 0
+  abbrev pub ToldByNumber : Given A → Type 0
+  ToldByNumber g = g .refused ≡ not (eqb (g .number) 0)
+
+  refusal-told : (n : ℕ) (zeros : A) → 1 ≤ n → ToldByNumber (refusal n zeros)
+  unfolding refusal
+  refusal-told n zeros h = sym (ap not (ne-eqb n 0 (λ e. omega arith)))
+
+  gives-told : (values : A) → ToldByNumber (gives values)
+  unfolding gives
+  gives-told values = refl
+
+-- what is so told is its number and values alone: in the case y of an answer, those that y gives
+pub by-number : {E A : Type 0} (given : E → Given A) {x y : E} {g : Given A} → ToldByNumber g → x ≡ y → given x ≡ g → byNumber (given y .number) (given y .values) ≡ g
+unfolding byNumber
+by-number {A = A} given told h e =
+    let s = ap given (sym h) ∙ e in
+    λ i. record { refused = (ap (λ (x : Given A). not (eqb (x .number) 0)) s ∙ sym told) i; number = s i .number; values = s i .values }
+
+-- an answer E that is a refusal with a number, or what follows
+module _ {E A : Type 0} (given : E → Given A) (refuse : ℕ → E) (told : (n : ℕ) → 1 ≤ n → ToldByNumber (given (refuse n))) where
+  -- after a reading
+  judged-told : {B : Type 0} (m : Reading B) (next : B → E) → NotZero m → ((b : B) → ToldByNumber (given (next b))) → ToldByNumber (given (judged m refuse next))
+  unfolding NotZero judged
+  judged-told (read b left) next h later = later b
+  judged-told (refused n) next h later = told n h
+
+  -- where a number is asked for
+  asked-told : (t : Bool) (x : E) → ToldByNumber (given x) → ToldByNumber (given (pick t x (refuse notThere)))
+  unfolding pick
+  asked-told true x h = h
+  asked-told false x h = told notThere (omega arith)
+
+asked-refused : (n : ℕ) → 1 ≤ n → ToldByNumber (askedGiven (asked.Refused n))
+unfolding askedGiven
+asked-refused n = refusal-told n false
+
+pub matches-told : (s d : List ℕ) (i : ℕ) → ToldByNumber (askedGiven (matchesAnswer s d i))
+unfolding matchesAnswer askedGiven
+matches-told s d i =
+    judged-told askedGiven asked.Refused asked-refused (sheet s) _ (sheet-numbered .not-zero s) λ sh.
+    judged-told askedGiven asked.Refused asked-refused (document sh d) _ (document-numbered sh .not-zero d) λ dc.
+    asked-told askedGiven asked.Refused asked-refused _ _ (gives-told _)
+
+pub covers-told : (s : List ℕ) (i j : ℕ) → ToldByNumber (askedGiven (coversAnswer s i j))
+unfolding coversAnswer askedGiven
+covers-told s i j =
+    judged-told askedGiven asked.Refused asked-refused (sheet s) _ (sheet-numbered .not-zero s) λ sh.
+    asked-told askedGiven asked.Refused asked-refused _ _ (gives-told _)
+
+routed-refused : (n : ℕ) → 1 ≤ n → ToldByNumber (routedGiven (routed.Refused n))
+unfolding routedGiven
+routed-refused n = refusal-told n 0
+
+pub plain-route-told : (s d : List ℕ) → ToldByNumber (routedGiven (plainAnswer s d))
+unfolding plainAnswer routedGiven
+plain-route-told s d =
+    judged-told routedGiven routed.Refused routed-refused (sheet s) _ (sheet-numbered .not-zero s) λ sh.
+    judged-told routedGiven routed.Refused routed-refused (document sh d) _ (document-numbered sh .not-zero d) λ dc.
+    gives-told _
+
+tabled-refused : (n : ℕ) → 1 ≤ n → ToldByNumber (tabledGiven (tabled.Refused n))
+unfolding tabledGiven
+tabled-refused n = refusal-told n _
+
+pub table-route-told : (s t d : List ℕ) → ToldByNumber (tabledGiven (tableAnswer s t d))
+unfolding tableAnswer tabledGiven
+table-route-told s t d =
+    judged-told tabledGiven tabled.Refused tabled-refused (sheet s) _ (sheet-numbered .not-zero s) λ sh.
+    judged-told tabledGiven tabled.Refused tabled-refused (fairTable sh t) _ (fair-table-numbered sh .not-zero t) λ es.
+    judged-told tabledGiven tabled.Refused tabled-refused (document sh d) _ (document-numbered sh .not-zero d) λ dc.
+    gives-told _
+
+-- ---- the same of what is written
+
+module _ {A : Type 0} where
+  unfoldable WritingNotZero : Writing A → Type 0
+  WritingNotZero (refuses n) = 1 ≤ n
+  WritingNotZero (writes a bs) = Unit {0}
+
+  -- room is judged last
+  room-not-zero : (out : List ℕ) (w : Writing A) → WritingNotZero w → WritingNotZero (withRoom out w)
+  unfolding WritingNotZero withRoom pick
+  room-not-zero out (refuses n) h = h
+  room-not-zero out (writes a bs) h = go (leb (length bs) (length out))
+    where
+      go : (b : Bool) → WritingNotZero (pick b (writes a bs) (refuses noRoom))
+      go true = tt
+      go false = omega arith
+
+  judged-writing : {B : Type 0} (m : Reading B) (next : B → Writing A) → NotZero m → ((b : B) → WritingNotZero (next b)) → WritingNotZero (judged m refuses next)
+  unfolding WritingNotZero NotZero judged
+  judged-writing (read b left) next h later = later b
+  judged-writing (refused n) next h later = h
+
+  -- where numbers are asked for
+  asked-writing : (there : Bool) (w : Writing A) → WritingNotZero w → WritingNotZero (pick there w (refuses notThere))
+  unfolding WritingNotZero pick
+  asked-writing true w h = h
+  asked-writing false w h = omega arith
+
+merge-told-of : (w : Writing Bool) → WritingNotZero w → ToldByNumber (mergedGiven (mergeAnswer w))
+unfolding WritingNotZero mergeAnswer mergedGiven
+merge-told-of (refuses n) h = refusal-told n _ h
+merge-told-of (writes clipped bs) h = gives-told _
+
+pub merge-told : (s : List ℕ) (i j : ℕ) (out : List ℕ) → ToldByNumber (mergedGiven (mergeAnswer (withRoom out (mergeWriting s i j))))
+unfolding mergeWriting WritingNotZero
+merge-told s i j out =
+    merge-told-of _ (room-not-zero out (mergeWriting s i j) (judged-writing (sheet s) _ (sheet-numbered .not-zero s) λ sh. asked-writing _ _ tt))
+
+build-told-of : (w : Writing ℕ) → WritingNotZero w → ToldByNumber (builtGiven (buildAnswer w))
+unfolding WritingNotZero buildAnswer builtGiven
+build-told-of (refuses n) h = refusal-told n _ h
+build-told-of (writes rounds bs) h = gives-told _
+
+pub build-told : (s : List ℕ) (limit : ℕ) (out : List ℕ) → ToldByNumber (builtGiven (buildAnswer (withRoom out (buildWriting s limit))))
+unfolding buildWriting WritingNotZero
+build-told s limit out =
+    build-told-of _ (room-not-zero out (buildWriting s limit) (judged-writing (sheet s) _ (sheet-numbered .not-zero s) λ sh. tt))
+
+-- ---- so number 0 means that every part was read
+
+-- a reading that went well
+pub record Went {A : Type 0} (m : Reading A) : Type 0 where
+  pub value : A
+  pub left : List ℕ
+  pub reads : m ≡ read value left
+
+module _ {A : Type 0} where
+  number-0 : (m : Reading A) → NotZero m → numberOf m ≡ 0 → Went m
+  unfolding NotZero numberOf
+  number-0 (read a left) h e = record { value = a; left = left; reads = refl }
+  number-0 (refused n) h e = absurd (omega arith)
+
+pub sheet-0 : (s : List ℕ) → sheetNumber s ≡ 0 → Went (sheet s)
+unfolding sheetNumber
+sheet-0 s = number-0 (sheet s) (sheet-numbered .not-zero s)
+
+module _ (s left : List ℕ) (sh : Sheet) (was-read : sheet s ≡ read sh left) where
+  pub document-0 : (d : List ℕ) → documentNumber s d ≡ 0 → Went (document sh d)
+  unfolding documentNumber judged
+  document-0 d h = number-0 (document sh d) (document-numbered sh .not-zero d) (rw was-read at h)
+
+  pub table-0 : (t : List ℕ) → tableNumber s t ≡ 0 → Went (fairTable sh t)
+  unfolding tableNumber judged
+  table-0 t h = number-0 (fairTable sh t) (fair-table-numbered sh .not-zero t) (rw was-read at h)
+
+-- a label that is there
+pub label-0 : (s d : List ℕ) (n : ℕ) → labelNumber s d n ≡ 0 → (w : Went (sheet s)) × (v : Went (document (w .value) d)) × (isLabel (labelsOf (w .value) (v .value)) n ≡ true)
+unfolding labelNumber judged pick NotZero
+label-0 s d n h = by-sheet (sheet s) (sheet-numbered .not-zero s) h
+  where
+    asked : (b : Bool) → pick b done notThere ≡ 0 → b ≡ true
+    asked true e = refl
+    asked false e = absurd (omega arith)
+
+    by-document : (sh : Sheet) (m : Reading Document) → NotZero m → judged m (λ k. k) (λ dc. pick (isLabel (labelsOf sh dc) n) done notThere) ≡ 0
+        → (v : Went m) × (isLabel (labelsOf sh (v .value)) n ≡ true)
+    by-document sh (read dc left) z e = (record { value = dc; left = left; reads = refl }, asked (isLabel (labelsOf sh dc) n) e)
+    by-document sh (refused k) z e = absurd (omega arith)
+
+    by-sheet : (m : Reading Sheet) → NotZero m → judged m (λ k. k) (λ sh. judged (document sh d) (λ k. k) (λ dc. pick (isLabel (labelsOf sh dc) n) done notThere)) ≡ 0
+        → (w : Went m) × (v : Went (document (w .value) d)) × (isLabel (labelsOf (w .value) (v .value)) n ≡ true)
+    by-sheet (read sh left) z e =
+        let r = by-document sh (document sh d) (document-numbered sh .not-zero d) e in
+        (record { value = sh; left = left; reads = refl }, r .0, r .1)
+    by-sheet (refused k) z e = absurd (omega arith)
+
+-- ---- a refused call gives zeros or an empty part, and leaves a lent output as found
+
+-- a refusal's number, and zeros
+pub asked-zeros : (x : Asked) → askedGiven x .refused ≡ true → askedGiven x ≡ refusal (askedGiven x .number) false
+unfolding askedGiven refusal gives
+asked-zeros (asked.Refused n) h = refl
+asked-zeros (asked.Said b) h = absurd (false≢true h)
+
+pub merged-zeros : (x : Merged) → mergedGiven x .refused ≡ true → mergedGiven x ≡ refusal (mergedGiven x .number) (record { length = 0; clipped = false })
+unfolding mergedGiven refusal gives
+merged-zeros (merged.Refused n) h = refl
+merged-zeros (merged.Wrote k b) h = absurd (false≢true h)
+
+pub built-zeros : (x : Built) → builtGiven x .refused ≡ true → builtGiven x ≡ refusal (builtGiven x .number) (record { length = 0; rounds = 0 })
+unfolding builtGiven refusal gives
+built-zeros (built.Refused n) h = refl
+built-zeros (built.Wrote k b) h = absurd (false≢true h)
+
+pub routed-zeros : (x : Routed) → routedGiven x .refused ≡ true → routedGiven x ≡ refusal (routedGiven x .number) 0
+unfolding routedGiven refusal gives
+routed-zeros (routed.Refused n) h = refl
+routed-zeros (routed.Delivered set) h = absurd (false≢true h)
+
+pub tabled-zeros : (x : Tabled) → tabledGiven x .refused ≡ true → tabledGiven x ≡ refusal (tabledGiven x .number) (record { set = 0; tried = 0 })
+unfolding tabledGiven refusal gives
+tabled-zeros (tabled.Refused n) h = refl
+tabled-zeros (tabled.Delivered set tried) h = absurd (false≢true h)
+
+-- the output as found
+pub merge-as-found : (out : List ℕ) (w : Writing Bool) → mergedGiven (mergeAnswer w) .refused ≡ true → after out w ≡ out
+unfolding mergeAnswer mergedGiven refusal gives after
+merge-as-found out (refuses n) h = refl
+merge-as-found out (writes clipped bs) h = absurd (false≢true h)
+
+pub build-as-found : (out : List ℕ) (w : Writing ℕ) → builtGiven (buildAnswer w) .refused ≡ true → after out w ≡ out
+unfolding buildAnswer builtGiven refusal gives after
+build-as-found out (refuses n) h = refl
+build-as-found out (writes rounds bs) h = absurd (false≢true h)
+
+-- no label, no bytes
+no-label : (ls : List (List ℕ)) (n : ℕ) → isLabel ls n ≡ false → labelAt ls n ≡ []
+unfolding isLabel labelAt
+no-label ls zero h = refl
+no-label ls (suc n) h = List·getD-eq-default ls [] (omega (arith, leb-false (suc n) (length ls) (rw (le-leb 1 (suc n) (omega arith)) at h)))
+
+-- and an empty part
+pub label-empty : (s d : List ℕ) (n : ℕ) → 1 ≤ labelNumber s d n → labelPart s d n ≡ []
+unfolding labelNumber labelPart judged pick
+label-empty s d n h = by-sheet (sheet s) h
+  where
+    number : Sheet → Document → ℕ
+    number sh dc = pick (isLabel (labelsOf sh dc) n) done notThere
+
+    asked : (sh : Sheet) (dc : Document) (there : Bool) → isLabel (labelsOf sh dc) n ≡ there → 1 ≤ pick there done notThere → labelAt (labelsOf sh dc) n ≡ []
+    asked sh dc true e k = absurd (omega arith)
+    asked sh dc false e k = no-label (labelsOf sh dc) n e
+
+    by-document : (sh : Sheet) (m : Reading Document) → 1 ≤ judged m (λ k. k) (number sh) → judged m (λ k. []) (λ dc. labelAt (labelsOf sh dc) n) ≡ []
+    by-document sh (read dc left) k = asked sh dc (isLabel (labelsOf sh dc) n) refl k
+    by-document sh (refused m) k = refl
+
+    by-sheet : (m : Reading Sheet) → 1 ≤ judged m (λ k. k) (λ sh. judged (document sh d) (λ k. k) (number sh))
+        → judged m (λ k. []) (λ sh. judged (document sh d) (λ k. []) (λ dc. labelAt (labelsOf sh dc) n)) ≡ []
+    by-sheet (read sh left) k = by-document sh (document sh d) k
+    by-sheet (refused m) k = refl

@@ -1,0 +1,62 @@
+-- What each call promises of what it gives back and of the bytes that it is lent to write, for any bytes and numbers: one
+-- proposition a call. The contracts cite these, and `Sharp` proves that each determines the result and the lent bytes.
+use Prim.Native.Nat.{ℕ}
+use mathlib.Core.Path.{_≡_}
+use mathlib.Core.Bool.{Bool}
+use mathlib.Core.List.{List}
+use Rattle.meaning.specs.Given.{Given, askedGiven, MergeValues, mergedGiven, BuildValues, builtGiven, routedGiven, RouteValues, tabledGiven}
+use Rattle.meaning.specs.Routing.{shedsIn, lowestShed}
+use Rattle.meaning.specs.Calls.{sheetNumber, documentNumber, tableNumber, matchesAnswer, coversAnswer, withRoom, after, mergeWriting, mergeAnswer, buildWriting, buildAnswer, plainAnswer, tableAnswer, labelNumber, labelPart}
+
+-- ---- the three checks
+
+abbrev pub SheetCheckGives : List ℕ → ℕ → Type 0
+SheetCheckGives s number = number ≡ sheetNumber s
+
+abbrev pub DocumentCheckGives : List ℕ → List ℕ → ℕ → Type 0
+DocumentCheckGives s d number = number ≡ documentNumber s d
+
+abbrev pub TableCheckGives : List ℕ → List ℕ → ℕ → Type 0
+TableCheckGives s t number = number ≡ tableNumber s t
+
+-- ---- does a subscription match, does it cover
+
+abbrev pub MatchesGives : List ℕ → List ℕ → ℕ → Given Bool → Type 0
+MatchesGives s d i given = given ≡ askedGiven (matchesAnswer s d i)
+
+abbrev pub CoversGives : List ℕ → ℕ → ℕ → Given Bool → Type 0
+CoversGives s i j given = given ≡ askedGiven (coversAnswer s i j)
+
+-- ---- what is written: what is given, and the lent output afterwards
+
+pub record MergeGives (s : List ℕ) (i j : ℕ) (out : List ℕ) (given : Given MergeValues) (lent : List ℕ) : Type 0 where
+  pub answer : given ≡ mergedGiven (mergeAnswer (withRoom out (mergeWriting s i j)))
+  pub output : lent ≡ after out (withRoom out (mergeWriting s i j))
+
+pub record BuildGives (s : List ℕ) (limit : ℕ) (out : List ℕ) (given : Given BuildValues) (lent : List ℕ) : Type 0 where
+  pub answer : given ≡ builtGiven (buildAnswer (withRoom out (buildWriting s limit)))
+  pub output : lent ≡ after out (withRoom out (buildWriting s limit))
+
+-- ---- the routes
+
+abbrev pub PlainRouteGives : List ℕ → List ℕ → Given ℕ → Type 0
+PlainRouteGives s d given = given ≡ routedGiven (plainAnswer s d)
+
+abbrev pub TableRouteGives : List ℕ → List ℕ → List ℕ → Given RouteValues → Type 0
+TableRouteGives s t d given = given ≡ tabledGiven (tableAnswer s t d)
+
+-- of a delivery set: how many sheds, and the lowest
+
+abbrev pub ShedsGives : ℕ → ℕ → Type 0
+ShedsGives set number = number ≡ shedsIn set
+
+abbrev pub LowestShedGives : ℕ → ℕ → Type 0
+LowestShedGives set shed = shed ≡ lowestShed set
+
+-- ---- label bytes: the number, and the part
+
+abbrev pub LabelNumberGives : List ℕ → List ℕ → ℕ → ℕ → Type 0
+LabelNumberGives s d n number = number ≡ labelNumber s d n
+
+abbrev pub LabelBytesGives : List ℕ → List ℕ → ℕ → List ℕ → Type 0
+LabelBytesGives s d n part = part ≡ labelPart s d n
