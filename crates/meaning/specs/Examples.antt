@@ -3,11 +3,12 @@
 use Prim.Native.Nat.{ℕ}
 use mathlib.Core.Path.{_≡_, refl}
 use mathlib.Core.Bool.{Bool, true, false}
-use mathlib.Core.List.{List, [], _∷_, map}
+use mathlib.Core.List.{List, [], _∷_, _++_, map, flatMap}
+use lib.ListN.{replicate}
 use Rattle.base.specs.Choice.{pick}
 use Rattle.base.specs.Lists.{some, every, keep, total, without, numbersFrom}
 use Rattle.meaning.specs.Reader.{go-on, _>>=_, _>>_, give, repeat, unless, byte, bytes, number, end, numberOf}
-use Rattle.meaning.specs.Forest.{axisOf, isNear, Forest, none, step, size, childrenIn, forest, parentIn, isChild, isBelowIn, isBelow, reaches}
+use Rattle.meaning.specs.Forest.{axisOf, axisNumber, isNear, Forest, none, step, size, childrenIn, forest, stepsFrom, stepsOf, parentIn, isChild, isBelowIn, isBelow, reaches}
 use Rattle.meaning.specs.Sections.{sameLabel, label, labels, upFrom, pathAfter, mayHang, isNearRoot, nearRoot, aStep, steps, pattern, sheet, Node, nodeParent, aNode, nodes, document, entry, table}
 use Rattle.meaning.specs.Satisfying.{anyOrSame, parentsOf, labelIn, fitsBelow, holdBelow, satisfies}
 use Rattle.meaning.specs.Covering.{mayLie, finds, fitsAt, lays, covers}
@@ -15,9 +16,15 @@ use Rattle.meaning.specs.Merging.{Merge, alone, joined, branchSize, laid
 use Rattle.meaning.specs.Building.{noEntry, entryAt, entrySteps, stepsTogether, entriesFrom, pair, coversOther, ascends, pairsOf, pairsBelow, joinAt, covering, settleAt, settleTimes, settle, saves, better, bestOf, bestPair, cut, largest, cutLargest, mergeOrCut, round, roundsFrom, build}
 use Rattle.meaning.specs.Fair.{isMember, hasMember, entriesOf, oneThatCovers, eachInOne, isPeopled, isWithin, fair}
 use Rattle.meaning.specs.Routing.{membersOf, triedFor, tried}
-use Rattle.meaning.specs.Calls.{judged, fairTable, sheetNumber, documentNumber, tableNumber}
+use Rattle.meaning.specs.LabelBytes.{labelsOf, isLabel}
+use Rattle.meaning.specs.Written.{stepBytes, patternBytes}
+use Rattle.meaning.specs.Calls.{judged, fairTable, isSubscription, subscription, sheetNumber, documentNumber, tableNumber, matchesAnswer, withRoom, after, mergeWriting, mergeAnswer, labelNumber}
 use Rattle.meaning.specs.Printing.{ascii}
 use Rattle.meaning.specs.RoseBench.{sheetR, slash, slashes, beside, a, b, c, star}
+use Rattle.meaning.specs.declared.Asked.{Asked}
+use Rattle.meaning.specs.declared.Asked.the-variants as asked
+use Rattle.meaning.specs.declared.Merged.{Merged}
+use Rattle.meaning.specs.declared.Merged.the-variants as merged
 
 -- ---- documents, as parent and label of each node
 
@@ -82,10 +89,12 @@ merges =
     ∷ merge (slashes a (slashes b none)) (slash b (slashes a none))
     -- /c[/b][//b] with //c//c/b: v' before w'
     ∷ merge (slash c (beside (slash b none) (slashes b none))) (slashes c (slashes c (slash b none)))
+    -- /a/b with /a/c, and no body above one step: the mark comes from the body of a
+    ∷ mergeWithin 1 (slash a (slash b none)) (slash a (slash c none))
     ∷ []
 
-unfoldable pub merged : List Merge
-merged =
+unfoldable pub expectedMerges : List Merge
+expectedMerges =
     -- [/*][//b]
     whole (beside (slash star none) (slashes b none))
     -- //*//a
@@ -96,6 +105,8 @@ merged =
     ∷ whole (beside (slashes star (slashes star none)) (beside (slashes a none) (slashes b none)))
     -- //c[/b][//b]
     ∷ whole (slashes c (beside (slash b none) (slashes b none)))
+    -- /a, clipped
+    ∷ record { pattern = slash a none; clipped = true }
     ∷ []
   where
     whole : Forest → Merge
@@ -122,12 +133,23 @@ sizes =
 
 -- ---- numbers
 
+-- one label A, and one pattern without steps
+unfoldable pub sheetA : List ℕ
+sheetA = 1 ∷ 1 ∷ 65 ∷ 1 ∷ 0 ∷ []
+
+-- a document of one node A
+unfoldable pub nodeA : List ℕ
+nodeA = 0 ∷ 1 ∷ 0 ∷ 0 ∷ 0 ∷ 1 ∷ []
+
 unfoldable pub numbers : List ℕ
 numbers =
-    -- each field is judged when its last byte is there: 65 patterns; 17 steps; a label of 61 bytes
+    -- each field is judged when its last byte is there: 65 patterns; 17 steps; a label of 61 bytes; one of none
     sheetNumber (0 ∷ 65 ∷ [])
     ∷ sheetNumber (0 ∷ 1 ∷ 17 ∷ [])
     ∷ sheetNumber (1 ∷ 61 ∷ [])
+    ∷ sheetNumber (1 ∷ 0 ∷ [])
+    -- a label of 60 bytes
+    ∷ sheetNumber (1 ∷ 60 ∷ (replicate 60 65 ++ (0 ∷ [])))
     -- parents 0, 1, 2, 1, and 0, 1, 1, 2
     ∷ sheetNumber (0 ∷ 1 ∷ 4 ∷ 0 ∷ 0 ∷ 0 ∷ 1 ∷ 0 ∷ 0 ∷ 2 ∷ 0 ∷ 0 ∷ 1 ∷ 0 ∷ 0 ∷ [])
     ∷ sheetNumber (0 ∷ 1 ∷ 4 ∷ 0 ∷ 0 ∷ 0 ∷ 1 ∷ 0 ∷ 0 ∷ 1 ∷ 0 ∷ 0 ∷ 2 ∷ 0 ∷ 0 ∷ [])
@@ -148,6 +170,11 @@ numbers =
     ∷ tableNumber sheetR (1 ∷ 7 ∷ 0 ∷ 0 ∷ 0 ∷ 0 ∷ 0 ∷ 0 ∷ 0 ∷ 1 ∷ 0 ∷ 0 ∷ 1 ∷ [])
     -- bytes that remain come before 12
     ∷ tableNumber sheetR (1 ∷ 7 ∷ 0 ∷ 0 ∷ 0 ∷ 0 ∷ 0 ∷ 0 ∷ 0 ∷ 1 ∷ 0 ∷ 0 ∷ 1 ∷ 0 ∷ [])
+    -- beside sheet A of one label: the document is judged before the label asked for; 0 is no label, and 1 is the last
+    ∷ labelNumber sheetA [] 2
+    ∷ labelNumber sheetA nodeA 0
+    ∷ labelNumber sheetA nodeA 1
+    ∷ labelNumber sheetA nodeA 2
     ∷ []
 
 -- ---- building
@@ -170,6 +197,35 @@ tries =
     (record { members = 5; pattern = slashes a none } ∷ record { members = 2; pattern = slashes c none } ∷ [])
     (slash a none ∷ slash c none ∷ slash a (slash b none) ∷ [])
 
+-- ---- what is asked, and what is written
+
+unfoldable pub asks : List Asked
+asks =
+    -- the document is judged before the number asked for
+    matchesAnswer sheetA [] 1
+    ∷ matchesAnswer sheetA nodeA 1
+    ∷ matchesAnswer sheetA nodeA 0
+    ∷ []
+
+-- the merge of the pattern without steps with itself takes one byte
+unfoldable pub mergesInto : List ℕ → Merged
+mergesInto out = mergeAnswer (withRoom out (mergeWriting sheetA 0 0))
+
+unfoldable pub leaves : List ℕ → List ℕ
+leaves out = after out (withRoom out (mergeWriting sheetA 0 0))
+
+unfoldable pub writings : List Merged
+writings =
+    -- no room, just enough, and more
+    mergesInto []
+    ∷ mergesInto (7 ∷ [])
+    ∷ mergesInto (7 ∷ 8 ∷ 9 ∷ [])
+    ∷ []
+
+-- bytes behind the written part are as found
+unfoldable pub outputs : List (List ℕ)
+outputs = leaves [] ∷ leaves (7 ∷ []) ∷ leaves (7 ∷ 8 ∷ 9 ∷ []) ∷ []
+
 pub record All : Type 0 where
   pub satisfied : List Bool
   pub covered : List Bool
@@ -179,23 +235,29 @@ pub record All : Type 0 where
   pub rounds : List ℕ
   pub settled : List ℕ
   pub tries : ℕ
+  pub asks : List Asked
+  pub writings : List Merged
+  pub outputs : List (List ℕ)
 
 unfoldable pub answers : All
-answers = record { satisfied = satisfied; covered = covered; merges = merges; sizes = sizes; numbers = numbers; rounds = rounds; settled = settled; tries = tries }
+answers = record { satisfied = satisfied; covered = covered; merges = merges; sizes = sizes; numbers = numbers; rounds = rounds; settled = settled; tries = tries; asks = asks; writings = writings; outputs = outputs }
 
 unfoldable pub expected : All
 expected = record {
   satisfied = true ∷ false ∷ true ∷ false ∷ true ∷ true ∷ [];
   covered = false ∷ true ∷ true ∷ false ∷ true ∷ false ∷ [];
-  merges = merged;
+  merges = expectedMerges;
   sizes = sized 16 false ∷ sized 12 false ∷ [];
-  numbers = 5 ∷ 5 ∷ 3 ∷ 0 ∷ 6 ∷ 9 ∷ 7 ∷ 8 ∷ 4 ∷ 2 ∷ 1 ∷ 5 ∷ 4 ∷ 8 ∷ 12 ∷ 2 ∷ [];
+  numbers = 5 ∷ 5 ∷ 3 ∷ 3 ∷ 0 ∷ 0 ∷ 6 ∷ 9 ∷ 7 ∷ 8 ∷ 4 ∷ 2 ∷ 1 ∷ 5 ∷ 4 ∷ 8 ∷ 12 ∷ 2 ∷ 1 ∷ 11 ∷ 0 ∷ 11 ∷ [];
   rounds = 1 ∷ 1 ∷ 2 ∷ 2 ∷ 3 ∷ [];
   settled = 3 ∷ [];
   tries = 4;
+  asks = asked.Refused 1 ∷ asked.Refused 11 ∷ asked.Said true ∷ [];
+  writings = merged.Refused 10 ∷ merged.Wrote 1 false ∷ merged.Wrote 1 false ∷ [];
+  outputs = [] ∷ (0 ∷ []) ∷ (0 ∷ 8 ∷ 9 ∷ []) ∷ [];
 }
 
 pub told-apart : answers ≡ expected
 unfolding
-    answers expected satisfied covered merges merged measured sized sizes numbers rounds settled tries node onlyA aOverB aOverBOverC sheetR slash slashes beside a b c star ascii pick some every keep total without numbersFrom go-on _>>=_ _>>_ give repeat unless byte bytes number end numberOf axisOf isNear size childrenIn forest parentIn isChild isBelowIn isBelow reaches sameLabel label labels upFrom pathAfter mayHang isNearRoot nearRoot aStep steps pattern sheet nodeParent aNode nodes document entry table anyOrSame parentsOf labelIn fitsBelow holdBelow satisfies mayLie finds fitsAt lays covers alone joined branchSize laidOn staysBeside nothing offer commonLabel bodyOf meet meetAt across through mergeWithin merge noEntry entryAt entrySteps stepsTogether entriesFrom pair coversOther ascends pairsOf pairsBelow joinAt covering settleAt settleTimes settle saves better bestOf bestPair cut largest cutLargest mergeOrCut round roundsFrom build isMember hasMember entriesOf oneThatCovers eachInOne isPeopled isWithin fair membersOf triedFor tried judged fairTable sheetNumber documentNumber tableNumber
+    answers expected satisfied covered merges expectedMerges measured sized sizes numbers sheetA nodeA rounds settled tries asks mergesInto leaves writings outputs node onlyA aOverB aOverBOverC sheetR slash slashes beside a b c star ascii pick some every keep total without numbersFrom go-on _>>=_ _>>_ give repeat unless byte bytes number end numberOf axisOf isNear size childrenIn forest parentIn isChild isBelowIn isBelow reaches sameLabel label labels upFrom pathAfter mayHang isNearRoot nearRoot aStep steps pattern sheet nodeParent aNode nodes document entry table anyOrSame parentsOf labelIn fitsBelow holdBelow satisfies mayLie finds fitsAt lays covers alone joined branchSize laidOn staysBeside nothing offer commonLabel bodyOf meet meetAt across through mergeWithin merge noEntry entryAt entrySteps stepsTogether entriesFrom pair coversOther ascends pairsOf pairsBelow joinAt covering settleAt settleTimes settle saves better bestOf bestPair cut largest cutLargest mergeOrCut round roundsFrom build isMember hasMember entriesOf oneThatCovers eachInOne isPeopled isWithin fair membersOf triedFor tried judged fairTable isSubscription subscription sheetNumber documentNumber tableNumber labelsOf isLabel labelNumber matchesAnswer withRoom after mergeWriting mergeAnswer stepsFrom stepsOf axisNumber stepBytes patternBytes flatMap
 told-apart = refl
