@@ -18,7 +18,8 @@ use Rattle.meaning.specs.Satisfying.{parentsOf}
 use Rattle.meaning.specs.Covering.{stepParents}
 use Rattle.meaning.specs.declared.Step.{Step}
 use Rattle.laws.specs.Rising.{Rising}
-use Rattle.laws.specs.Readers.{give-read, bind-read, test-read, byte-read, end-read}
+use Rattle.laws.specs.DocumentRead.{document-read}
+use Rattle.laws.specs.Readers.{give-read, bind-read, test-read, byte-read}
 use Rattle.laws.specs.Preorder.{Hanging, hanging-rises, hanging-written}
 use Rattle.laws.specs.Sound.{SoundSteps, steps-read}
 
@@ -72,17 +73,9 @@ nodes-low known (suc n) k bs left ds a h =
 
 -- the nodes of a document that was read rise
 pub document-rises : (sh : Sheet) (bs left : List ℕ) (d : Document) → document sh bs ≡ read d left → Rising (parentsOf (d .nodes))
-unfolding document
 document-rises sh bs left d h =
-    let n = byte-read _ bs h in
-    let few = test-read _ _ _ (n .others) (n .after) in
-    let ls = bind-read _ _ (n .others) d left (few .1) in
-    let m = bind-read _ _ (ls .middle) d left (ls .after) in
-    let some′ = test-read _ _ _ (m .middle) (m .after) in
-    let ds = bind-read _ _ (m .middle) d left (some′ .1) in
-    let last = end-read _ (ds .middle) (ds .after) in
-    let low = nodes-low _ (m .value) 1 (m .middle) (ds .middle) (ds .value) (omega arith) (ds .before) in
-    subst (λ (r : Document). Rising (parentsOf (r .nodes))) (give-read _ [] (last .1) .0) (record { low = λ k l. omega (arith, low k l) })
+    let r = document-read sh bs left d h in
+    record { low = λ k l. omega (arith, nodes-low _ (r .many) 1 (r .from) (r .to) (d .nodes) (omega arith) (r .stood) k l) }
 
 -- ---- steps
 

@@ -17,6 +17,7 @@ use Rattle.base.specs.Replacing.{place-in}
 use Rattle.meaning.specs.Reader.{read}
 use Rattle.meaning.specs.Sections.{sameLabel, label, labels, Sheet, sheet, Document, document}
 use Rattle.meaning.specs.LabelBytes.{labelsOf}
+use Rattle.laws.specs.DocumentRead.{document-read}
 use Rattle.laws.specs.Readers.{give-read, bind-read, test-read, byte-read, end-read}
 
 pub same-bytes : (xs ys : List ℕ) → sameLabel xs ys ≡ true → xs ≡ ys
@@ -97,15 +98,7 @@ sheet-distinct s left sh h =
 
 -- and with them those of a document that was read beside it: two label numbers stand for the same bytes only if they are equal
 pub document-distinct : (s left : List ℕ) (sh : Sheet) → sheet s ≡ read sh left → (d rest : List ℕ) (dc : Document) → document sh d ≡ read dc rest → Distinct (labelsOf sh dc)
-unfolding document labelsOf
+unfolding labelsOf
 document-distinct s left sh h d rest dc k =
-    let n = byte-read _ d k in
-    let room = test-read _ _ _ (n .others) (n .after) in
-    let ls = bind-read (labels (n .first) (sh .labels)) _ (n .others) dc rest (room .1) in
-    let m = bind-read _ _ (ls .middle) dc rest (ls .after) in
-    let few = test-read _ _ _ (m .middle) (m .after) in
-    let ns = bind-read _ _ (m .middle) dc rest (few .1) in
-    let last = end-read _ (ns .middle) (ns .after) in
-    let made = give-read _ [] (last .1) in
-    let apart = labels-distinct (n .first) (sh .labels) (n .others) (ls .value) (ls .middle) (ls .before) (sheet-distinct s left sh h) in
-    rw (sym (made .0)) apart
+    let r = document-read sh d rest dc k in
+    labels-distinct (r .count) (sh .labels) (r .others) (dc .labels) (r .middle) (r .named) (sheet-distinct s left sh h)

@@ -36,6 +36,7 @@ pub mod Tables
 pub mod Readers
 pub mod Refusals
 pub mod Answers
+pub mod DocumentRead
 pub mod Labels
 pub mod Preorder
 pub mod Sound
@@ -44,6 +45,8 @@ pub mod WrittenSound
 pub mod SoundPattern
 pub mod ReadNumbers
 pub mod RoundTrip
+pub mod LabelsStand
+pub mod ByBytes
 -- what was built passes the check
 pub mod Passing
 -- routes
@@ -51,3 +54,5 @@ pub mod Routes
 pub mod Sheds
 -- the rose bench examples
 pub mod Cases
+-- the three demands
+pub mod Demands

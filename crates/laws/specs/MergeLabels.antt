@@ -18,6 +18,12 @@ unfoldable pub LabelsWithin : ℕ → Forest → Type 0
 LabelsWithin n none = Unit {0}
 LabelsWithin n (step a l kids later) = (l ≤ n) × LabelsWithin n kids × LabelsWithin n later
 
+-- and so at most any larger number
+pub labels-more : (n m : ℕ) → n ≤ m → (p : Forest) → LabelsWithin n p → LabelsWithin m p
+unfolding LabelsWithin
+labels-more n m h none w = tt
+labels-more n m h (step a l kids later) w = (omega (arith, w .0), labels-more n m h kids (w .1), labels-more n m h later (w .2))
+
 module _ (limit n : ℕ) where
   -- the common label of two is at most n where the first is
   common-within : (l m : ℕ) → l ≤ n → commonLabel l m ≤ n

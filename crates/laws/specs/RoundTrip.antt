@@ -30,7 +30,7 @@ label-read before bs text left h =
     cc
 
 -- so of labels
-labels-read : (n : ℕ) (before : List (List ℕ)) (bs : List ℕ) (ls : List (List ℕ)) (left : List ℕ) → labels n before bs ≡ read ls left
+pub labels-read : (n : ℕ) (before : List (List ℕ)) (bs : List ℕ) (ls : List (List ℕ)) (left : List ℕ) → labels n before bs ≡ read ls left
     → (length ls ≡ n) × (bs ≡ flatMap labelBytes ls ++ left)
 unfolding labels flatMap
 labels-read zero before bs ls left h =

@@ -1,6 +1,6 @@
 -- A subscription stands in exactly one entry, which covers it: as a sum and a fact about every entry. Being fair follows
 -- from one table to another where each subscription goes on standing.
-use Prim.Native.Nat.{ℕ, suc, _+_, _<_}
+use Prim.Native.Nat.{ℕ, zero, suc, _+_, _<_}
 use mathlib.Core.Path.{_≡_, refl, sym, _∙_, ap, subst}
 use mathlib.Core.Bool.{true, _&&_, false≢true}
 use mathlib.Core.List.{List, [], _∷_, List·Memᴰ, List·Memᴰ·head, List·Memᴰ·eq-of-singleton}
@@ -61,6 +61,15 @@ each-of i (p ∷ ps) es h =
     and-both (oneThatCovers p (entriesOf i es)) (eachInOne (suc i) ps es)
     (stands-gives i p es (subst (λ (k : ℕ). Stands k p es) (omega arith) (h 0 (omega arith))))
     (each-of (suc i) ps es (λ j l. subst (λ (k : ℕ). Stands k (getD ps j none) es) (omega arith) (h (suc j) (omega arith))))
+
+-- and the other way round
+pub each-gives : (i : ℕ) (ps : List Forest) (es : List Entry) → eachInOne i ps es ≡ true → (j : ℕ) → j < length ps → Stands (i + j) (getD ps j none) es
+unfolding eachInOne
+each-gives i [] es h j l = absurd (omega arith)
+each-gives i (p ∷ ps) es h zero l = subst (λ (k : ℕ). Stands k p es) (omega arith) (stands-of i p es (and-first (oneThatCovers p (entriesOf i es)) (eachInOne (suc i) ps es) h))
+each-gives i (p ∷ ps) es h (suc j) l =
+    subst (λ (k : ℕ). Stands k (getD ps j none) es) (omega arith)
+    (each-gives (suc i) ps es (and-second (oneThatCovers p (entriesOf i es)) (eachInOne (suc i) ps es) h) j (omega arith))
 
 -- ---- from one table to another
 

@@ -10,6 +10,7 @@ pub mod Building
 pub mod Fair
 pub mod Routing
 pub mod LabelBytes
+pub mod ByBytes
 pub mod Written
 pub mod Calls
 pub mod Given
