@@ -3,7 +3,7 @@
 #include "by_hand.h"
 #include "inputs.h"
 
-enum { MOST_SECTIONS = 24, MOST_CASES = 160, MOST_QUESTIONS = 4096, MOST_RARES = 8 };
+enum { MOST_SECTIONS = 24, MOST_CASES = 160, MOST_QUESTIONS = 4096, MOST_RARES = 8, MOST_TABLES = 32 };
 
 Section sections[MOST_SECTIONS];
 unsigned section_count;
@@ -11,8 +11,10 @@ Rare rares[MOST_RARES];
 unsigned rare_count;
 
 static Case cases[MOST_CASES];
-static Question questions[MOST_QUESTIONS];
+static Question questions[MOST_QUESTIONS], builds[MOST_TABLES];
 static unsigned case_count, question_count;
+
+Case tables = {"the tables that are routed by", 0, builds};
 
 static const Shape bushy = {16, 50, 25, false};
 static const Shape far_chain = {16, 100, 25, true};
@@ -54,8 +56,14 @@ static void add_question(Case *to, Question question)
 // The table that a sheet gets for a limit.
 static Part built_table(Part sheet, uint16_t limit)
 {
+    if (tables.count == MOST_TABLES) {
+        printf("cases.c has no room for another table\n");
+        exit(2);
+    }
+    Question *build = &builds[tables.count++];
+    *build = (Question){BUILD, .sheet = sheet, .limit = limit};
     Answer answer;
-    ask_afresh(&answer, &sides[0], &(Question){BUILD, .sheet = sheet, .limit = limit});
+    ask_afresh(&answer, &sides[0], build);
     begin_part();
     for (size_t i = 0; i < answer.length; i++)
         put(answer.out[i]);
@@ -206,6 +214,8 @@ static void add_rare(Part sheet, Part table, unsigned nodes)
     rare->plain.questions = questions + question_count;
     rare->table.questions = rare->plain.questions + RARE_DOCUMENTS;
     rare->plain.count = rare->table.count = RARE_DOCUMENTS;
+    snprintf(rare->plain.name, sizeof rare->plain.name, "plain route, %u nodes", nodes);
+    snprintf(rare->table.name, sizeof rare->table.name, "table route, %u nodes", nodes);
     question_count += 2 * RARE_DOCUMENTS;
     for (unsigned i = 0; i < RARE_DOCUMENTS; i++) {
         Part document = family_document(nodes);

@@ -30,6 +30,9 @@ extern unsigned section_count;
 extern Rare rares[];
 extern unsigned rare_count;
 
+// The builds that the table routes need: compared, and not timed. At limit 0 every sheet ends in the same table.
+extern Case tables;
+
 void make_cases(void);
 
 #endif

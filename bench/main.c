@@ -1,4 +1,5 @@
 // The benchmark: the examples, then the same answers from both sides on every input, then the times of both and the stack they take.
+// With the word --compare it ends after the answers.
 #include "examples.h"
 #include "report.h"
 #include "stack.h"
@@ -19,56 +20,80 @@ static void print_answer(const Side *side, const Answer *answer)
            answer->count, answer->length);
 }
 
-// A question that is refused, or answered in two ways, ends the run.
-static void check_question(const char *title, const char *name, const Question *question)
+// How many questions were asked, and of how many the answers differ or are refusals.
+static unsigned checked, wrong;
+
+// Says what is wrong with an answer; past some there is no use in showing more.
+static void complain(const char *of, const char *what, const Answer *first, const Answer *other)
+{
+    enum { MOST_SHOWN = 20 };
+    if (++wrong > MOST_SHOWN)
+        return;
+    printf("%s: %s\n", of, what);
+    print_answer(&sides[0], first);
+    if (other != NULL)
+        print_answer(&sides[1], other);
+}
+
+static void check_question(const char *of, const Question *question)
 {
     static Answer first, other;
+    checked++;
     ask_afresh(&first, &sides[0], question);
-    for (unsigned s = 1; s < side_count; s++) {
-        ask_afresh(&other, &sides[s], question);
-        if (same(&first, &other))
-            continue;
-        printf("%s, %s: the answers, or the bytes written, differ\n", title, name);
-        print_answer(&sides[0], &first);
-        print_answer(&sides[s], &other);
-        exit(1);
+    if (side_count > 1) {
+        ask_afresh(&other, &sides[1], question);
+        if (!same(&first, &other)) {
+            complain(of, "the answers, or the bytes written, differ", &first, &other);
+            return;
+        }
     }
-    if (first.number != 0) {
-        printf("%s, %s: the input is refused\n", title, name);
-        print_answer(&sides[0], &first);
-        exit(1);
-    }
+    if (first.number != 0)
+        complain(of, "the input is refused", &first, NULL);
 }
 
-// Gives how many questions there were.
-static unsigned check_case(const char *title, const Case *checked)
+static void check_case(const char *title, const Case *of)
 {
-    for (unsigned i = 0; i < checked->count; i++)
-        check_question(title, checked->name, &checked->questions[i]);
-    return checked->count;
+    for (unsigned i = 0; i < of->count; i++) {
+        char name[160];
+        snprintf(name, sizeof name, "%s, %s, question %u", title, of->name, i + 1);
+        check_question(name, &of->questions[i]);
+    }
 }
 
+// A question that is refused, or answered in two ways, ends the run with status 1.
 static void check_cases(void)
 {
-    unsigned checked = 0;
     for (unsigned i = 0; i < section_count; i++)
         for (unsigned j = 0; j < sections[i].count; j++)
-            checked += check_case(sections[i].title, &sections[i].cases[j]);
+            check_case(sections[i].title, &sections[i].cases[j]);
     for (unsigned i = 0; i < rare_count; i++) {
-        checked += check_case("Few match", &rares[i].plain);
-        checked += check_case("Few match", &rares[i].table);
+        check_case("Few match", &rares[i].plain);
+        check_case("Few match", &rares[i].table);
     }
-    printf("- %u questions answered%s\n", checked, side_count > 1 ? ", each alike by both sides" : "");
+    check_case("Building", &tables);
+    if (wrong == 0)
+        return;
+    printf("bench: of %u answers %u differ or are refusals\n", checked, wrong);
+    exit(1);
 }
 
-int main(void)
+static void report(void)
 {
-    check_examples();
-    make_cases();
-    check_cases();
+    printf("- %u questions answered%s\n", checked, side_count > 1 ? ", each alike by both sides" : "");
     for (unsigned i = 0; i < section_count; i++)
         report_section(&sections[i]);
     report_rares();
     report_stack();
+}
+
+int main(int count, char **words)
+{
+    check_examples();
+    make_cases();
+    check_cases();
+    if (count == 2 && strcmp(words[1], "--compare") == 0)
+        printf("bench: %u answers agree\n", checked);
+    else
+        report();
     return 0;
 }
