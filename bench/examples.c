@@ -286,6 +286,8 @@ static void told_apart(void)
     Part three = sheet_of("a b c d", "/a/b /a/c //d");
     expect_build("three at limit 3", three, 3, table_of("a b c d", "3 /a/* 4 //d"), 1);
     expect_build("three at limit 0", three, 0, table_of("a b c d", "7 ."), 3);
+    expect_build("a cut, the last step", sheet_of("a b c", "/a[/b][//c]"), 2, table_of("a b c", "1 /a/b"), 1);
+    expect_build("a cut, the first on ties", sheet_of("a b", "/a/b /b/a"), 3, table_of("a b", "1 /a 2 /b/a"), 1);
     Part table = table_of("a b c", "5 //a 2 //c");
     expect_table("tries", sheet_of("a b c", "/a /c /a/b"), table, document_of("", "0 1 1 2"), (Tabled){0, 5, 4});
 }
