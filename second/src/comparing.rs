@@ -10,7 +10,7 @@ use std::fs;
 
 const BATCH: usize = 500;
 /// After so many differences there is no use in going on.
-const MOST_DIFFERENCES: usize = 20;
+pub const MOST_DIFFERENCES: usize = 20;
 
 pub struct Comparison {
     command: Vec<String>,
@@ -113,15 +113,10 @@ impl Comparison {
         }
     }
 
-    /// Writes the bytes to a file with which they can be asked again.
     fn keep(&mut self, stream: &[u8]) {
         self.differences += 1;
         let name = format!("difference-{}.ask", self.differences);
-        match fs::write(&name, stream) {
-            Ok(()) => println!("    ask again: {} < {name}", self.command.join(" ")),
-            Err(error) => println!("    can't write {name}: {error}"),
-        }
-        println!();
+        keep(&name, stream, &self.command);
     }
 
     /// A run must give as many lines as it had questions, and end well.
@@ -164,13 +159,22 @@ impl Comparison {
     }
 }
 
+/// Writes the bytes to a file with which they can be asked again.
+pub fn keep(name: &str, bytes: &[u8], command: &[String]) {
+    match fs::write(name, bytes) {
+        Ok(()) => println!("    ask again: {} < {name}", command.join(" ")),
+        Err(error) => println!("    can't write {name}: {error}"),
+    }
+    println!();
+}
+
 /// The line with its line feed.
 fn is_line(got: Option<&Vec<u8>>, expected: &str) -> bool {
     got.is_some_and(|got| got.strip_suffix(b"\n") == Some(expected.as_bytes()))
 }
 
 /// Very long hexadecimals are shown in part; the file has them whole.
-fn shortened(text: &str) -> String {
+pub fn shortened(text: &str) -> String {
     const MOST: usize = 4_000;
     if text.len() <= MOST {
         return text.to_string();

@@ -2,6 +2,7 @@
 
 use crate::answers::answer;
 use crate::notation::pattern;
+use crate::printing::printed;
 use crate::question::Question;
 use crate::trees::{written, written_table, Entry};
 
@@ -22,6 +23,8 @@ pub fn all() -> Vec<Example> {
     covering_examples(&mut list);
     merging_examples(&mut list);
     building_examples(&mut list);
+    printing_examples(&mut list);
+    printing_of_little(&mut list);
     limit_examples(&mut list);
     byte_examples(&mut list);
     misreadings(&mut list);
@@ -191,6 +194,53 @@ fn building_examples(list: &mut Vec<Example>) {
     add(list, "a table that is not fair", check, "12");
 }
 
+/// What is printed for a limit and a sheet, escaped.
+fn add_print(list: &mut Vec<Example>, name: &str, input: &[u8], expected: &[u8]) {
+    list.push(Example {
+        name: name.to_string(),
+        expected: expected.escape_ascii().to_string(),
+        got: printed(input).escape_ascii().to_string(),
+    });
+}
+
+fn printing_examples(list: &mut Vec<Example>) {
+    let mut print = |name: &str, limit: u16, sheet: &[u8], expected: &[u8]| {
+        let input = [&limit.to_le_bytes(), sheet].concat();
+        add_print(list, name, &input, expected);
+    };
+    let limit_3 = b"3 subscriptions, 2 entries, 3 steps, 0 rounds\n1: //CD/Bach\n0,2: /CD\n";
+    print("R at limit 3 is printed", 3, &rose(), limit_3);
+    print("R at limit 256 is printed", 256, &rose(), limit_3);
+    let limit_2 = b"3 subscriptions, 1 entries, 1 steps, 1 rounds\n0,1,2: //CD\n";
+    print("R at limit 2 is printed", 2, &rose(), limit_2);
+    let limit_0 = b"3 subscriptions, 1 entries, 0 steps, 2 rounds\n0,1,2: .\n";
+    print("R at limit 0 is printed", 0, &rose(), limit_0);
+    let brackets = "[//CD[/*][//Bach]][//*/Bach]";
+    let text = format!("1 subscriptions, 1 entries, 5 steps, 0 rounds\n0: {brackets}\n");
+    let sheet = sheet_of(&ROSE_LABELS, &[brackets]);
+    print("brackets are printed", 5, &sheet, text.as_bytes());
+    let text = b"1 subscriptions, 1 entries, 2 steps, 1 rounds\n0: /a/b\n";
+    let sheet = sheet_of(&ABC, &["/a[/b][//c]"]);
+    print("a cut takes the last step", 2, &sheet, text);
+    let text = b"2 subscriptions, 2 entries, 3 steps, 1 rounds\n0: /a\n1: /b/a\n";
+    let sheet = sheet_of(&ABC, &["/a/b", "/b/a"]);
+    print("a cut takes the first on ties", 3, &sheet, text);
+    let mut sheet = label_section(&[b"\xc3\x97\n?"]);
+    sheet.extend([1, 1, 0, 0, 1]);
+    let text = b"1 subscriptions, 1 entries, 1 steps, 0 rounds\n0: /\xc3\x97\n?\n";
+    print("a label's bytes are printed", 1, &sheet, text);
+}
+
+fn printing_of_little(list: &mut Vec<Example>) {
+    for count in 0..4 {
+        let input = &[0, 0, 0, 0][..count];
+        add_print(list, &format!("{count} bytes"), input, b"refused 1\n");
+    }
+    let nothing = b"0 subscriptions, 0 entries, 0 steps, 0 rounds\n";
+    add_print(list, "no subscriptions", &[0; 4], nothing);
+    add_print(list, "bytes remain", &[0; 5], b"refused 2\n");
+}
+
 fn limit_examples(list: &mut Vec<Example>) {
     for (length, expected) in [(60, "0"), (61, "3")] {
         let label = vec![7u8; length];
@@ -274,25 +324,20 @@ fn misreadings(list: &mut Vec<Example>) {
     sixteen.room = 48;
     let as_found = format!("10 0 0 {}", "a5".repeat(48));
     add(list, "the root counted, no room", sixteen, &as_found);
-    unclipped(list, "the root counted", "//a/a/b//a", "/a/b/a/b");
-    let [first, second] = ["/a/c/c/a/b", "//c[/b/b][/c/a]"];
-    unclipped(list, "size tested before drops", first, second);
+    unclipped(list, "the root counted", ["//a/a/b//a", "/a/b/a/b"], 16);
+    let texts = ["/a/c/c/a/b", "//c[/b/b][/c/a]"];
+    unclipped(list, "size tested before drops", texts, 12);
 }
 
-/// Of these merges the papers say only that they are not clipped (and the steps of one).
-fn unclipped(list: &mut Vec<Example>, name: &str, first: &str, second: &str) {
-    let mut merge = merging(&ABC, first, second);
+/// Of these merges only the number of steps is said, and that they are not clipped.
+fn unclipped(list: &mut Vec<Example>, name: &str, texts: [&str; 2], steps: usize) {
+    let mut merge = merging(&ABC, texts[0], texts[1]);
     merge.room = 49;
     let line = answer(&merge).line;
     let values: Vec<&str> = line.split(' ').collect();
-    let length = if name == "the root counted" {
-        "49"
-    } else {
-        values[1]
-    };
     list.push(Example {
         name: name.to_string(),
-        expected: format!("0 {length} 0"),
+        expected: format!("0 {} 0", 1 + 3 * steps),
         got: values[..3].join(" "),
     });
 }

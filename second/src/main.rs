@@ -1,4 +1,4 @@
-//! The second program: it asks `ask` random questions and compares every line with its own.
+//! The second program: it asks `ask` random questions and compares every line with its own, and so with what `table` prints.
 //!
 //! It is written from the customer's demands, the scope document and docs/ASK.md alone, and answers by brute force:
 //! it keeps no notes, works every body of a merge out again, and searches small layings
@@ -8,6 +8,7 @@ mod answers;
 mod asking;
 mod building;
 mod comparing;
+mod comparing_prints;
 mod counts;
 mod covering;
 mod draw;
@@ -17,6 +18,7 @@ mod maps;
 mod merging;
 mod notation;
 mod numbers;
+mod printing;
 mod question;
 mod random;
 mod reading;
@@ -37,6 +39,12 @@ second SEED COUNT [-- COMMAND ARGS..]
     the current folder. At the end, counts of what came up. The status is 1 if there was a
     difference, or if in 3000 questions or more some refusal or kind of answer never came up.
 
+second SEED COUNT --table [-- COMMAND ARGS..]
+    Draws COUNT inputs of the program `table` from SEED, gives each to a run of COMMAND (without
+    it `./run table`), and compares all that it prints with this program's own text. An input
+    that makes a difference goes to difference-N.table. The status is 1 if there was a
+    difference, or if in 200 inputs or more a kind of table or some refusal never came up.
+
 second SEED COUNT --answers
     Prints this program's own answers to the same questions, and asks nobody.
 
@@ -47,9 +55,12 @@ second --be-ask
     Is `ask`: reads questions from standard input and writes the lines. So two builds of
     this program can be compared, and a difference looked at.
 
+second --be-table
+    Is `table`: reads a limit and a sheet from standard input and prints the table.
+
 second --self-test
-    Checks this program's own answers against the examples of document 01 and the
-    misreadings listed in section 6 of the design.
+    Checks this program's own answers against the examples of document 01, the readings of
+    docs/DECISIONS.md and what easy misreadings would answer.
 
 second --help
     Prints this.
@@ -62,11 +73,18 @@ fn main() -> ExitCode {
         ["--help"] => print(USAGE),
         ["--self-test"] => return self_test(),
         ["--be-ask"] => be_ask(),
+        ["--be-table"] => be_table(),
         [seed, count, "--answers"] => with_numbers(seed, count, print_answers),
         [seed, count, "--questions"] => with_numbers(seed, count, print_questions),
-        [seed, count] => return compare(seed, count, &["./run", "ask"]),
+        [seed, count] => return compare(seed, count, comparing::compare, &["./run", "ask"]),
         [seed, count, "--", ref command @ ..] if !command.is_empty() => {
-            return compare(seed, count, command)
+            return compare(seed, count, comparing::compare, command)
+        }
+        [seed, count, "--table"] => {
+            return compare(seed, count, comparing_prints::compare, &["./run", "table"])
+        }
+        [seed, count, "--table", "--", ref command @ ..] if !command.is_empty() => {
+            return compare(seed, count, comparing_prints::compare, command)
         }
         _ => return usage_error(),
     };
@@ -88,12 +106,17 @@ fn print(text: &str) -> io::Result<()> {
     io::stdout().write_all(text.as_bytes())
 }
 
-fn compare(seed: &str, count: &str, command: &[&str]) -> ExitCode {
+fn compare(
+    seed: &str,
+    count: &str,
+    with: fn(u64, usize, Vec<String>) -> bool,
+    command: &[&str],
+) -> ExitCode {
     let (Ok(seed), Ok(count)) = (seed.parse(), count.parse()) else {
         return usage_error();
     };
     let command = command.iter().map(|word| word.to_string()).collect();
-    if comparing::compare(seed, count, command) {
+    if with(seed, count, command) {
         ExitCode::SUCCESS
     } else {
         ExitCode::FAILURE
@@ -137,6 +160,12 @@ fn be_ask() -> io::Result<()> {
     out.flush()
 }
 
+fn be_table() -> io::Result<()> {
+    let mut input = Vec::new();
+    io::stdin().lock().read_to_end(&mut input)?;
+    io::stdout().write_all(&printing::printed(&input))
+}
+
 fn self_test() -> ExitCode {
     let mut wrong = 0;
     let examples = examples::all();
@@ -148,7 +177,7 @@ fn self_test() -> ExitCode {
             println!("    got:      {}", example.got);
         }
     }
-    println!("{} passed, {wrong} failed", examples.len() - wrong);
+    println!("second: {} examples, {wrong} do not hold", examples.len());
     if wrong == 0 {
         ExitCode::SUCCESS
     } else {

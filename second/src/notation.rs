@@ -46,25 +46,33 @@ fn branch(rest: &mut &str, labels: &[&str]) -> Branch {
     Branch { far, label, below }
 }
 
-/// The text of a pattern; bytes that are not plain letters are escaped.
+/// The text of a pattern for a reader: bytes that are not plain letters are escaped.
 pub fn shown(pattern: &[Branch], labels: &[Vec<u8>]) -> String {
-    if pattern.is_empty() {
-        return ".".to_string();
-    }
-    shown_below(pattern, labels)
+    text(pattern, labels).escape_ascii().to_string()
 }
 
-fn shown_below(branches: &[Branch], labels: &[Vec<u8>]) -> String {
-    let text = |b: &Branch| {
-        let axis = if b.far { "//" } else { "/" };
-        let name = match b.label {
-            0 => "*".to_string(),
-            number => labels[number as usize - 1].escape_ascii().to_string(),
+/// The text of a pattern, with labels as their bytes.
+pub fn text(pattern: &[Branch], labels: &[Vec<u8>]) -> Vec<u8> {
+    if pattern.is_empty() {
+        return b".".to_vec();
+    }
+    text_below(pattern, labels)
+}
+
+fn text_below(branches: &[Branch], labels: &[Vec<u8>]) -> Vec<u8> {
+    let of_branch = |b: &Branch| {
+        let axis: &[u8] = if b.far { b"//" } else { b"/" };
+        let name: &[u8] = match b.label {
+            0 => b"*",
+            number => &labels[number as usize - 1],
         };
-        format!("{axis}{name}{}", shown_below(&b.below, labels))
+        [axis, name, &text_below(&b.below, labels)].concat()
     };
     match branches {
-        [only] => text(only),
-        several => several.iter().map(|b| format!("[{}]", text(b))).collect(),
+        [only] => of_branch(only),
+        several => several
+            .iter()
+            .flat_map(|b| [b"[", &of_branch(b)[..], b"]"].concat())
+            .collect(),
     }
 }

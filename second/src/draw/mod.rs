@@ -1,4 +1,4 @@
-//! Drawing random questions: sound ones, damaged ones, and streams that end in a question.
+//! Drawing random questions: sound ones, damaged ones, and streams that end in a question. Inputs of `table` as well.
 
 mod aims;
 mod damage;
@@ -7,6 +7,7 @@ mod drafts;
 mod effort;
 mod ends;
 mod fields;
+mod inputs;
 mod label_names;
 mod patterns;
 mod questions;
@@ -15,4 +16,5 @@ mod tables;
 
 pub use aims::aims_of;
 pub use ends::ends;
+pub use inputs::Inputs;
 pub use questions::Draw;

@@ -39,9 +39,15 @@ impl Draw {
 
     /// The next question, and this program's own answer to it.
     pub fn next(&mut self) -> (Question, Answer) {
-        let turn = self.asked % LETTERS.len();
-        let letter = LETTERS[turn];
+        let letter = LETTERS[self.asked % LETTERS.len()];
         self.asked += 1;
+        self.next_of(letter)
+    }
+
+    /// A question of this letter, whosever turn it is.
+    pub fn next_of(&mut self, letter: u8) -> (Question, Answer) {
+        let is_it = |&l: &u8| l == letter;
+        let turn = LETTERS.iter().position(is_it).expect("a known letter");
         match self.random.below(8) {
             0 | 1 => {
                 let size = size_for(&mut self.random, letter);
