@@ -30,7 +30,8 @@ extern unsigned section_count;
 extern Rare rares[];
 extern unsigned rare_count;
 
-// The builds that the table routes need: compared, and not timed. At limit 0 every sheet ends in the same table.
+// The builds that the table routes need: compared, and not timed. A build at limit 0 always ends in one entry without
+// steps, and its bytes tell little.
 extern Case tables;
 
 void make_cases(void);

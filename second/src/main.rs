@@ -1,4 +1,4 @@
-//! The second program: it asks `ask` random questions and compares every line with its own, and so with what `table` prints.
+//! The second program: it asks `ask` random questions, runs `table` on random inputs, and compares every line with its own.
 //!
 //! It is written from the customer's demands, the scope document and docs/ASK.md alone, and answers by brute force:
 //! it keeps no notes, works every body of a merge out again, and searches small layings
