@@ -1,4 +1,5 @@
--- The promises determine what the print server is given: any two routes that they allow are equal.
+-- The promises determine what the print server is given: any two routes that they allow are equal. (That of the sheet check is
+-- a number alone: `sheet-check-sharp` of `meaning`.)
 use Prim.Native.Nat.{ℕ}
 use mathlib.Core.Path.{_≡_}
 use mathlib.Core.List.{List}

@@ -10,16 +10,15 @@ use lib.Dec.{eqb, leb}
 use lib.ListN.{length, List·getD-eq-default}
 use Rattle.base.specs.Choice.{pick}
 use Rattle.meaning.specs.Numbers.{done, noRoom, notThere}
-use Rattle.meaning.specs.Reader.{Reading, read, refused, numberOf}
-use Rattle.meaning.specs.Sections.{Sheet, sheet, Document, document}
+use Rattle.meaning.specs.Reader.{Reading, read, refused, Went, numberOf}
+use Rattle.meaning.specs.Sections.{Sheet, sheet, Document, document, Entry}
+use Rattle.meaning.specs.Routing.{plainRoute, tableRoute, tried}
 use Rattle.meaning.specs.LabelBytes.{labelsOf, isLabel, labelAt}
 use Rattle.meaning.specs.Calls.{judged, fairTable, Writing, refuses, writes, withRoom, after, mergeWriting, mergeAnswer, buildWriting, buildAnswer, plainAnswer, tableAnswer, matchesAnswer, coversAnswer, sheetNumber, documentNumber, tableNumber, labelNumber, labelPart}
-use Rattle.meaning.specs.Given.{Given, refusal, gives, byNumber, askedGiven, mergedGiven, builtGiven, routedGiven, tabledGiven}
-use Rattle.meaning.specs.declared.Asked.{Asked}
+use Rattle.meaning.specs.Given.{Given, refusal, gives, byNumber, ToldByNumber, askedGiven, MergeValues, mergedGiven, BuildValues, builtGiven, routedGiven, RouteValues, tabledGiven}
+use Rattle.meaning.specs.Promises.{MatchesGives, CoversGives, MergeGives, BuildGives, PlainRouteGives, TableRouteGives}
 use Rattle.meaning.specs.declared.Asked.the-variants as asked
-use Rattle.meaning.specs.declared.Merged.{Merged}
 use Rattle.meaning.specs.declared.Merged.the-variants as merged
-use Rattle.meaning.specs.declared.Built.{Built}
 use Rattle.meaning.specs.declared.Built.the-variants as built
 use Rattle.meaning.specs.declared.Routed.{Routed}
 use Rattle.meaning.specs.declared.Routed.the-variants as routed
@@ -30,10 +29,6 @@ use Rattle.laws.specs.Refusals.{NotZero, sheet-numbered, document-number
 -- ---- 0 is given exactly where a call is not refused
 
 module _ {A : Type 0} where
-  -- refused exactly if the number is not 0
-  abbrev pub ToldByNumber : Given A → Type 0
-  ToldByNumber g = g .refused ≡ not (eqb (g .number) 0)
-
   refusal-told : (n : ℕ) (zeros : A) → 1 ≤ n → ToldByNumber (refusal n zeros)
   unfolding refusal
   refusal-told n zeros h = sym (ap not (ne-eqb n 0 (λ e. omega arith)))
@@ -153,12 +148,6 @@ build-told s limit out =
 
 -- ---- so number 0 means that every part was read
 
--- a reading that went well
-pub record Went {A : Type 0} (m : Reading A) : Type 0 where
-  pub value : A
-  pub left : List ℕ
-  pub reads : m ≡ read value left
-
 module _ {A : Type 0} where
   number-0 : (m : Reading A) → NotZero m → numberOf m ≡ 0 → Went m
   unfolding NotZero numberOf
@@ -199,44 +188,141 @@ label-0 s d n h = by-sheet (sheet s) (sheet-numbered .not-zero s) h
         (record { value = sh; left = left; reads = refl }, r .0, r .1)
     by-sheet (refused k) z e = absurd (omega arith)
 
+-- ---- the order of refusals: the first part that is refused gives its number
+
+-- the first of two numbers that is not 0
+unfoldable pub firstFault : ℕ → ℕ → ℕ
+firstFault n m = pick (eqb n done) m n
+
+same-fault : (n : ℕ) → n ≡ firstFault n n
+unfolding firstFault pick
+same-fault n = go (eqb n 0)
+  where
+    go : (b : Bool) → n ≡ pick b n n
+    go true = refl
+    go false = refl
+
+earlier-fault : (n m : ℕ) → 1 ≤ n → n ≡ firstFault n m
+unfolding firstFault pick
+earlier-fault n m h = rw (ne-eqb n 0 (λ e. omega arith))
+
+-- of the plain route: sheet, document
+pub plain-route-number : (s d : List ℕ) → routedGiven (plainAnswer s d) .number ≡ documentNumber s d
+unfolding plainAnswer documentNumber judged routedGiven refusal gives numberOf
+plain-route-number s d = by-sheet (sheet s)
+  where
+    route : Sheet → Document → Routed
+    route sh dc = routed.Delivered (plainRoute (dc .nodes) (sh .patterns))
+
+    by-document : (sh : Sheet) (m : Reading Document) → routedGiven (judged m routed.Refused (route sh)) .number ≡ numberOf m
+    by-document sh (read dc left) = refl
+    by-document sh (refused n) = refl
+
+    by-sheet : (m : Reading Sheet) → routedGiven (judged m routed.Refused (λ sh. judged (document sh d) routed.Refused (route sh))) .number ≡ judged m (λ n. n) (λ sh. numberOf (document sh d))
+    by-sheet (read sh left) = by-document sh (document sh d)
+    by-sheet (refused n) = refl
+
+-- of the route by a table: sheet, table, document
+pub table-route-number : (s t d : List ℕ) → tabledGiven (tableAnswer s t d) .number ≡ firstFault (tableNumber s t) (documentNumber s d)
+unfolding tableAnswer tableNumber documentNumber judged tabledGiven refusal gives numberOf NotZero firstFault pick
+table-route-number s t d = by-sheet (sheet s)
+  where
+    route : Sheet → List Entry → Document → Tabled
+    route sh es dc = tabled.Delivered (tableRoute (dc .nodes) es (sh .patterns)) (tried (dc .nodes) es (sh .patterns))
+
+    by-document : (sh : Sheet) (es : List Entry) (m : Reading Document) → tabledGiven (judged m tabled.Refused (route sh es)) .number ≡ numberOf m
+    by-document sh es (read dc left) = refl
+    by-document sh es (refused n) = refl
+
+    by-table : (sh : Sheet) (m : Reading (List Entry)) → NotZero m
+        → tabledGiven (judged m tabled.Refused (λ es. judged (document sh d) tabled.Refused (route sh es))) .number ≡ firstFault (numberOf m) (numberOf (document sh d))
+    by-table sh (read es left) h = by-document sh es (document sh d)
+    by-table sh (refused n) h = earlier-fault n (numberOf (document sh d)) h
+
+    by-sheet : (m : Reading Sheet)
+        → tabledGiven (judged m tabled.Refused (λ sh. judged (fairTable sh t) tabled.Refused (λ es. judged (document sh d) tabled.Refused (route sh es)))) .number
+        ≡ firstFault (judged m (λ n. n) (λ sh. numberOf (fairTable sh t))) (judged m (λ n. n) (λ sh. numberOf (document sh d)))
+    by-sheet (read sh left) = by-table sh (fairTable sh t) (fair-table-numbered sh .not-zero t)
+    by-sheet (refused n) = same-fault n
+
 -- ---- a refused call gives zeros or an empty part, and leaves a lent output as found
 
--- a refusal's number, and zeros
-pub asked-zeros : (x : Asked) → askedGiven x .refused ≡ true → askedGiven x ≡ refusal (askedGiven x .number) false
+-- what is given with a number that is not 0 is that number, and zeros
+module _ {E A : Type 0} (given : E → Given A) (zeros : A) where
+  -- so it is of every refusal among the cases
+  abbrev RefusesWithZeros : Type 0
+  RefusesWithZeros = (x : E) → given x .refused ≡ true → given x ≡ refusal (given x .number) zeros
+
+  zeros-of : RefusesWithZeros → (x : E) → ToldByNumber (given x) → (g : Given A) → g ≡ given x → 1 ≤ g .number → g ≡ refusal (g .number) zeros
+  zeros-of cases x told g e h =
+      let same : g .number ≡ given x .number = ap (λ (y : Given A). y .number) e in
+      e ∙ cases x (told ∙ ap not (ne-eqb (given x .number) 0 (λ z. omega arith))) ∙ ap (λ (n : ℕ). refusal n zeros) (sym same)
+
+asked-cases : RefusesWithZeros askedGiven false
 unfolding askedGiven refusal gives
-asked-zeros (asked.Refused n) h = refl
-asked-zeros (asked.Said b) h = absurd (false≢true h)
+asked-cases (asked.Refused n) h = refl
+asked-cases (asked.Said b) h = absurd (false≢true h)
 
-pub merged-zeros : (x : Merged) → mergedGiven x .refused ≡ true → mergedGiven x ≡ refusal (mergedGiven x .number) (record { length = 0; clipped = false })
+merged-cases : RefusesWithZeros mergedGiven (record { length = 0; clipped = false })
 unfolding mergedGiven refusal gives
-merged-zeros (merged.Refused n) h = refl
-merged-zeros (merged.Wrote k b) h = absurd (false≢true h)
+merged-cases (merged.Refused n) h = refl
+merged-cases (merged.Wrote k b) h = absurd (false≢true h)
 
-pub built-zeros : (x : Built) → builtGiven x .refused ≡ true → builtGiven x ≡ refusal (builtGiven x .number) (record { length = 0; rounds = 0 })
+built-cases : RefusesWithZeros builtGiven (record { length = 0; rounds = 0 })
 unfolding builtGiven refusal gives
-built-zeros (built.Refused n) h = refl
-built-zeros (built.Wrote k b) h = absurd (false≢true h)
+built-cases (built.Refused n) h = refl
+built-cases (built.Wrote k b) h = absurd (false≢true h)
 
-pub routed-zeros : (x : Routed) → routedGiven x .refused ≡ true → routedGiven x ≡ refusal (routedGiven x .number) 0
+routed-cases : RefusesWithZeros routedGiven 0
 unfolding routedGiven refusal gives
-routed-zeros (routed.Refused n) h = refl
-routed-zeros (routed.Delivered set) h = absurd (false≢true h)
+routed-cases (routed.Refused n) h = refl
+routed-cases (routed.Delivered set) h = absurd (false≢true h)
 
-pub tabled-zeros : (x : Tabled) → tabledGiven x .refused ≡ true → tabledGiven x ≡ refusal (tabledGiven x .number) (record { set = 0; tried = 0 })
+tabled-cases : RefusesWithZeros tabledGiven (record { set = 0; tried = 0 })
 unfolding tabledGiven refusal gives
-tabled-zeros (tabled.Refused n) h = refl
-tabled-zeros (tabled.Delivered set tried) h = absurd (false≢true h)
+tabled-cases (tabled.Refused n) h = refl
+tabled-cases (tabled.Delivered set tried) h = absurd (false≢true h)
 
--- the output as found
-pub merge-as-found : (out : List ℕ) (w : Writing Bool) → mergedGiven (mergeAnswer w) .refused ≡ true → after out w ≡ out
+-- a refused writing leaves the output as found
+merge-as-found : (out : List ℕ) (w : Writing Bool) → mergedGiven (mergeAnswer w) .refused ≡ true → after out w ≡ out
 unfolding mergeAnswer mergedGiven refusal gives after
 merge-as-found out (refuses n) h = refl
 merge-as-found out (writes clipped bs) h = absurd (false≢true h)
 
-pub build-as-found : (out : List ℕ) (w : Writing ℕ) → builtGiven (buildAnswer w) .refused ≡ true → after out w ≡ out
+build-as-found : (out : List ℕ) (w : Writing ℕ) → builtGiven (buildAnswer w) .refused ≡ true → after out w ≡ out
 unfolding buildAnswer builtGiven refusal gives after
 build-as-found out (refuses n) h = refl
 build-as-found out (writes rounds bs) h = absurd (false≢true h)
+
+module _ (s : List ℕ) where
+  pub matches-zeros : (d : List ℕ) (i : ℕ) (g : Given Bool) → MatchesGives s d i g → 1 ≤ g .number → g ≡ refusal (g .number) false
+  matches-zeros d i = zeros-of askedGiven false asked-cases (matchesAnswer s d i) (matches-told s d i)
+
+  pub covers-zeros : (i j : ℕ) (g : Given Bool) → CoversGives s i j g → 1 ≤ g .number → g ≡ refusal (g .number) false
+  covers-zeros i j = zeros-of askedGiven false asked-cases (coversAnswer s i j) (covers-told s i j)
+
+  pub plain-route-zeros : (d : List ℕ) (g : Given ℕ) → PlainRouteGives s d g → 1 ≤ g .number → g ≡ refusal (g .number) 0
+  plain-route-zeros d = zeros-of routedGiven 0 routed-cases (plainAnswer s d) (plain-route-told s d)
+
+  pub table-route-zeros : (t d : List ℕ) (g : Given RouteValues) → TableRouteGives s t d g → 1 ≤ g .number → g ≡ refusal (g .number) (record { set = 0; tried = 0 })
+  table-route-zeros t d = zeros-of tabledGiven _ tabled-cases (tableAnswer s t d) (table-route-told s t d)
+
+  -- and the output is as found
+  pub merge-zeros : (i j : ℕ) (found : List ℕ) (g : Given MergeValues) (left : List ℕ) → MergeGives s i j found g left → 1 ≤ g .number
+      → (g ≡ refusal (g .number) (record { length = 0; clipped = false })) × (left ≡ found)
+  unfolding refusal
+  merge-zeros i j found g left p h =
+      let w = withRoom found (mergeWriting s i j) in
+      let zeros = zeros-of mergedGiven _ merged-cases (mergeAnswer w) (merge-told s i j found) g (p .answer) h in
+      (zeros, p .output ∙ merge-as-found found w (ap (λ (x : Given MergeValues). x .refused) (sym (p .answer) ∙ zeros)))
+
+  pub build-zeros : (limit : ℕ) (found : List ℕ) (g : Given BuildValues) (left : List ℕ) → BuildGives s limit found g left → 1 ≤ g .number
+      → (g ≡ refusal (g .number) (record { length = 0; rounds = 0 })) × (left ≡ found)
+  unfolding refusal
+  build-zeros limit found g left p h =
+      let w = withRoom found (buildWriting s limit) in
+      let zeros = zeros-of builtGiven _ built-cases (buildAnswer w) (build-told s limit found) g (p .answer) h in
+      (zeros, p .output ∙ build-as-found found w (ap (λ (x : Given BuildValues). x .refused) (sym (p .answer) ∙ zeros)))
 
 -- no label, no bytes
 no-label : (ls : List (List ℕ)) (n : ℕ) → isLabel ls n ≡ false → labelAt ls n ≡ []

@@ -26,7 +26,7 @@ pub record Stands (i : ℕ) (p : Forest) (es : List Entry) : Type 0 where
   pub covered : (e : Entry) → List·Memᴰ e es → hasMember i e ≡ true → covers (e .pattern) p ≡ true
 
 -- the test tells that there is one, and that it covers
-only-one : (p : Forest) (ks : List Entry) → oneThatCovers p ks ≡ true → (length ks ≡ 1) × ((e : Entry) → List·Memᴰ e ks → covers (e .pattern) p ≡ true)
+pub only-one : (p : Forest) (ks : List Entry) → oneThatCovers p ks ≡ true → (length ks ≡ 1) × ((e : Entry) → List·Memᴰ e ks → covers (e .pattern) p ≡ true)
 unfolding oneThatCovers
 only-one p [] h = absurd (false≢true h)
 only-one p (k ∷ []) h = (refl, λ e m. ap (λ (f : Entry). covers (f .pattern) p) (List·Memᴰ·eq-of-singleton m) ∙ h)

@@ -1,4 +1,4 @@
--- When a document satisfies a pattern, said by label bytes: a step with a label fits a node exactly if their bytes are equal.
+-- When a document satisfies a pattern, said by label bytes: a step's label and a node's are the same exactly if their bytes are.
 -- `laws` proves that this is what `satisfies` says of label numbers.
 use Prim.Native.Nat.{ℕ, _≤_}
 use mathlib.Core.Path.{_≡_}
@@ -11,7 +11,7 @@ use Rattle.meaning.specs.Sections.{Node}
 use Rattle.meaning.specs.Satisfying.{parentsOf, labelIn}
 use Rattle.meaning.specs.LabelBytes.{labelAt}
 
--- the label is any, or has the same bytes
+-- of labels that exist: a step's is any, or has the same bytes as a node's
 abbrev pub AnyOrSameBytes : List (List ℕ) → ℕ → ℕ → Type 0
 AnyOrSameBytes ls l m = (l ≡ 0) ⊎ (labelAt ls l ≡ labelAt ls m)
 

@@ -22,7 +22,7 @@ stepAt ss (suc k) = getD ss k (record { parent = 0; axis = 0; label = 0 })
 unfoldable pub stepParents : List Step → List ℕ
 stepParents ss = map (λ s. s .parent) ss
 
--- step s of A lies well on step u of B, whose parent's place is t: among t's children if it is near, strictly below t if far
+-- step s of A, whose parent's place is t, lies well on step u of B: among t's children if it is near, strictly below t if far
 pub record LiesWell (b : List Step) (s : Step) (t u : ℕ) : Type 0 where
   pub there : (1 ≤ u) × (u ≤ length b)
   pub within : reaches (axisOf (s .axis)) (stepParents b) t u ≡ true

@@ -19,11 +19,13 @@ use Rattle.meaning.specs.Routing.{membersOf, triedFor, tried}
 use Rattle.meaning.specs.LabelBytes.{labelsOf, isLabel}
 use Rattle.meaning.specs.Written.{stepBytes, patternBytes}
 use Rattle.meaning.specs.Calls.{judged, fairTable, isSubscription, subscription, sheetNumber, documentNumber, tableNumber, matchesAnswer, withRoom, after, mergeWriting, mergeAnswer, labelNumber}
+use Rattle.meaning.specs.Given.{Given, refusal, gives, byNumber, RouteValues, tabledGiven}
 use Rattle.meaning.specs.Printing.{ascii}
 use Rattle.meaning.specs.RoseBench.{sheetR, slash, slashes, beside, a, b, c, star}
 use Rattle.meaning.specs.declared.Asked.{Asked}
 use Rattle.meaning.specs.declared.Asked.the-variants as asked
 use Rattle.meaning.specs.declared.Merged.{Merged}
+use Rattle.meaning.specs.declared.Tabled.the-variants as tabled
 use Rattle.meaning.specs.declared.Merged.the-variants as merged
 
 -- ---- documents, as parent and label of each node
@@ -222,6 +224,10 @@ writings =
     ∷ mergesInto (7 ∷ 8 ∷ 9 ∷ [])
     ∷ []
 
+-- what is given in each case: whether it is refused, the number and the values
+unfoldable pub givens : List (Given RouteValues)
+givens = tabledGiven (tabled.Refused 12) ∷ tabledGiven (tabled.Delivered 5 4) ∷ byNumber 0 (record { set = 5; tried = 4 }) ∷ []
+
 -- bytes behind the written part are as found
 unfoldable pub outputs : List (List ℕ)
 outputs = leaves [] ∷ leaves (7 ∷ []) ∷ leaves (7 ∷ 8 ∷ 9 ∷ []) ∷ []
@@ -238,9 +244,10 @@ pub record All : Type 0 where
   pub asks : List Asked
   pub writings : List Merged
   pub outputs : List (List ℕ)
+  pub givens : List (Given RouteValues)
 
 unfoldable pub answers : All
-answers = record { satisfied = satisfied; covered = covered; merges = merges; sizes = sizes; numbers = numbers; rounds = rounds; settled = settled; tries = tries; asks = asks; writings = writings; outputs = outputs }
+answers = record { satisfied = satisfied; covered = covered; merges = merges; sizes = sizes; numbers = numbers; rounds = rounds; settled = settled; tries = tries; asks = asks; writings = writings; outputs = outputs; givens = givens }
 
 unfoldable pub expected : All
 expected = record {
@@ -255,9 +262,14 @@ expected = record {
   asks = asked.Refused 1 ∷ asked.Refused 11 ∷ asked.Said true ∷ [];
   writings = merged.Refused 10 ∷ merged.Wrote 1 false ∷ merged.Wrote 1 false ∷ [];
   outputs = [] ∷ (0 ∷ []) ∷ (0 ∷ 8 ∷ 9 ∷ []) ∷ [];
+  givens =
+      record { refused = true; number = 12; values = record { set = 0; tried = 0 } }
+      ∷ record { refused = false; number = 0; values = record { set = 5; tried = 4 } }
+      ∷ record { refused = false; number = 0; values = record { set = 5; tried = 4 } }
+      ∷ [];
 }
 
 pub told-apart : answers ≡ expected
 unfolding
-    answers expected satisfied covered merges expectedMerges measured sized sizes numbers sheetA nodeA rounds settled tries asks mergesInto leaves writings outputs node onlyA aOverB aOverBOverC sheetR slash slashes beside a b c star ascii pick some every keep total without numbersFrom go-on _>>=_ _>>_ give repeat unless byte bytes number end numberOf axisOf isNear size childrenIn forest parentIn isChild isBelowIn isBelow reaches sameLabel label labels upFrom pathAfter mayHang isNearRoot nearRoot aStep steps pattern sheet nodeParent aNode nodes document entry table anyOrSame parentsOf labelIn fitsBelow holdBelow satisfies mayLie finds fitsAt lays covers alone joined branchSize laidOn staysBeside nothing offer commonLabel bodyOf meet meetAt across through mergeWithin merge noEntry entryAt entrySteps stepsTogether entriesFrom pair coversOther ascends pairsOf pairsBelow joinAt covering settleAt settleTimes settle saves better bestOf bestPair cut largest cutLargest mergeOrCut round roundsFrom build isMember hasMember entriesOf oneThatCovers eachInOne isPeopled isWithin fair membersOf triedFor tried judged fairTable isSubscription subscription sheetNumber documentNumber tableNumber labelsOf isLabel labelNumber matchesAnswer withRoom after mergeWriting mergeAnswer stepsFrom stepsOf axisNumber stepBytes patternBytes flatMap
+    answers expected satisfied covered merges expectedMerges measured sized sizes numbers sheetA nodeA rounds settled tries asks mergesInto leaves writings outputs givens refusal gives byNumber tabledGiven node onlyA aOverB aOverBOverC sheetR slash slashes beside a b c star ascii pick some every keep total without numbersFrom go-on _>>=_ _>>_ give repeat unless byte bytes number end numberOf axisOf isNear size childrenIn forest parentIn isChild isBelowIn isBelow reaches sameLabel label labels upFrom pathAfter mayHang isNearRoot nearRoot aStep steps pattern sheet nodeParent aNode nodes document entry table anyOrSame parentsOf labelIn fitsBelow holdBelow satisfies mayLie finds fitsAt lays covers alone joined branchSize laidOn staysBeside nothing offer commonLabel bodyOf meet meetAt across through mergeWithin merge noEntry entryAt entrySteps stepsTogether entriesFrom pair coversOther ascends pairsOf pairsBelow joinAt covering settleAt settleTimes settle saves better bestOf bestPair cut largest cutLargest mergeOrCut round roundsFrom build isMember hasMember entriesOf oneThatCovers eachInOne isPeopled isWithin fair membersOf triedFor tried judged fairTable isSubscription subscription sheetNumber documentNumber tableNumber labelsOf isLabel labelNumber matchesAnswer withRoom after mergeWriting mergeAnswer stepsFrom stepsOf axisNumber stepBytes patternBytes flatMap
 told-apart = refl

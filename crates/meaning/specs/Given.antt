@@ -1,6 +1,8 @@
--- What is given back: whether a call is refused, the number, and the values. For each answer that is an enum, the paper's
--- number and values in each case: a refusal gives its number and zeros, and 0 comes with the values.
+-- What is given back: the number and the values. For each answer that is an enum, the paper's number and values in each
+-- case: a refusal gives its number and zeros, and 0 comes with the values. Whether it is a refusal is kept beside them, so that
+-- a refusal with the number 0 is never taken for an answer.
 use Prim.Native.Nat.{ℕ}
+use mathlib.Core.Path.{_≡_}
 use mathlib.Core.Bool.{Bool, true, false, not}
 use lib.Dec.{eqb}
 use Rattle.meaning.specs.Numbers.{done}
@@ -31,7 +33,11 @@ module _ {A : Type 0} where
 
   -- as a number and values alone, for C: refused exactly if the number is not 0
   unfoldable pub byNumber : ℕ → A → Given A
-  byNumber n values = record { refused = not (eqb n 0); number = n; values = values }
+  byNumber n values = record { refused = not (eqb n done); number = n; values = values }
+
+  -- what is given tells by its number whether it is refused: exactly if the number is not 0
+  abbrev pub ToldByNumber : Given A → Type 0
+  ToldByNumber g = g .refused ≡ not (eqb (g .number) done)
 
 -- ---- does a subscription match, does it cover: yes or no
 

@@ -14,7 +14,7 @@ labelsOf sh d = sh .labels ++ d .labels
 unfoldable pub isLabel : List (List ℕ) → ℕ → Bool
 isLabel ls n = leb 1 n && leb n (length ls)
 
--- the bytes of label n; 0 is no label
+-- the bytes of label n; 0 is no label, nor is a number after the last, and they have none
 unfoldable pub labelAt : List (List ℕ) → ℕ → List ℕ
 labelAt ls zero = []
 labelAt ls (suc n) = getD ls n []

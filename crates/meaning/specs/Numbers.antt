@@ -21,7 +21,7 @@ labelLength = 3
 abbrev pub labelTwice : ℕ
 labelTwice = 4
 
--- a count is outside its limits
+-- a count is outside its limits (S + D included)
 abbrev pub countOutside : ℕ
 countOutside = 5
 

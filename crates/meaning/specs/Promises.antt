@@ -27,15 +27,15 @@ MatchesGives s d i given = given ≡ askedGiven (matchesAnswer s d i)
 abbrev pub CoversGives : List ℕ → ℕ → ℕ → Given Bool → Type 0
 CoversGives s i j given = given ≡ askedGiven (coversAnswer s i j)
 
--- ---- what is written: what is given, and the lent output afterwards
+-- ---- what is written: what is given, and the lent output as it is left, where it was found so
 
-pub record MergeGives (s : List ℕ) (i j : ℕ) (out : List ℕ) (given : Given MergeValues) (lent : List ℕ) : Type 0 where
-  pub answer : given ≡ mergedGiven (mergeAnswer (withRoom out (mergeWriting s i j)))
-  pub output : lent ≡ after out (withRoom out (mergeWriting s i j))
+pub record MergeGives (s : List ℕ) (i j : ℕ) (found : List ℕ) (given : Given MergeValues) (left : List ℕ) : Type 0 where
+  pub answer : given ≡ mergedGiven (mergeAnswer (withRoom found (mergeWriting s i j)))
+  pub output : left ≡ after found (withRoom found (mergeWriting s i j))
 
-pub record BuildGives (s : List ℕ) (limit : ℕ) (out : List ℕ) (given : Given BuildValues) (lent : List ℕ) : Type 0 where
-  pub answer : given ≡ builtGiven (buildAnswer (withRoom out (buildWriting s limit)))
-  pub output : lent ≡ after out (withRoom out (buildWriting s limit))
+pub record BuildGives (s : List ℕ) (limit : ℕ) (found : List ℕ) (given : Given BuildValues) (left : List ℕ) : Type 0 where
+  pub answer : given ≡ builtGiven (buildAnswer (withRoom found (buildWriting s limit)))
+  pub output : left ≡ after found (withRoom found (buildWriting s limit))
 
 -- ---- the routes
 

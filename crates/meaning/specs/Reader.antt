@@ -1,5 +1,6 @@
 -- Bytes are judged from the front, each field when its last byte is read: the first fault decides.
 use Prim.Native.Nat.{ℕ, zero, suc, _+_, _*_}
+use mathlib.Core.Path.{_≡_}
 use mathlib.Core.Bool.{Bool, true, false}
 use mathlib.Core.List.{List, [], _∷_}
 use Rattle.meaning.specs.Numbers.{done, endsEarly, bytesRemain}
@@ -8,6 +9,12 @@ use Rattle.meaning.specs.Numbers.{done, endsEarly, bytesRemain}
 pub data Reading (A : Type 0) : Type 0 where
   read : A → List ℕ → Reading A
   refused : ℕ → Reading A
+
+-- a reading that went well
+pub record Went {A : Type 0} (m : Reading A) : Type 0 where
+  pub value : A
+  pub left : List ℕ
+  pub reads : m ≡ read value left
 
 abbrev pub Reader : Type 0 → Type 0
 Reader A = List ℕ → Reading A

@@ -1,4 +1,4 @@
-// What the papers define, and nothing else: no function has a body here. The definitions are in specs/, in the order of
+// What the papers define, and nothing else: there is no function here. The definitions are in specs/, in the order of
 // the paper. Declared here are the step as it is written, and the answers of the hub's calls.
 
 // A step as it is written: the number of its parent (0: the pattern's root), its axis (0 near, 1 far), its label (0: any).
@@ -14,13 +14,13 @@ pub enum Asked {
     Said(bool),
 }
 
-// A merge that was written: how many bytes, and whether a candidate was left out.
+// A merge: a refusal, or how many bytes were written, and whether a candidate was left out.
 pub enum Merged {
     Refused(u8),
     Wrote { length: usize, clipped: bool },
 }
 
-// A table that was built and written: how many bytes, after how many rounds.
+// A table for a limit: a refusal, or how many bytes were written, after how many rounds.
 pub enum Built {
     Refused(u8),
     Wrote { length: usize, rounds: usize },
