@@ -6,7 +6,7 @@ use mathlib.Core.Path.{ap, _∙_}
 use mathlib.Core.Bool.{true, false}
 use Rattle.base.specs.Choice.{pick}
 use Rattle.meaning.specs.Covering.{covers}
-use Rattle.shapes.specs.Shapes.{patternOf, entryOf}
+use Rattle.shapes.specs.Shapes.{patternOf, entryOf, SoundPattern}
 use Rattle.shapes.specs.declared.Entry.{Entry}
 use Rattle.fairness.specs.Weighing.{weigh-passes, weigh-again, weigh-first}
 use Rattle.fairness.proofs.weigh.Statement.{statement}
@@ -32,8 +32,8 @@ entry-at-requires c κs = search needs
 
 covers-requires : tie.Need-covers-requires
 covers-requires c κs =
-    let pre = c .before .before .before .before .before .pre in
-    (rw (c .entry-at .ensures) (pre .1), pre .3)
+    let start = c .before .before .before .before .before in
+    let sound : SoundPattern (c .entry-at .result .pattern) = rw (c .entry-at .ensures) (start .pre .1) in search (sound, start .pre .3)
 
 returns-3 : tie.Need-returns-3
 unfolding entryOf pick
