@@ -1,8 +1,8 @@
 -- The notes of one covering: what was decided of a pair of steps, and that a note changes no answer.
 use Prim.Native.Nat.{ℕ, _+_, _*_, _-_, _≤_}
-use mathlib.Core.Path.{_≡_, sym, _∙_}
+use mathlib.Core.Path.{_≡_, refl, sym, _∙_}
 use mathlib.Core.Logic.{_⊎_, inl, inr}
-use mathlib.Core.Bool.{Bool, true, false}
+use mathlib.Core.Bool.{Bool, true, false, _&&_}
 use mathlib.Core.List.{List}
 use native.Mathlib.Omega.{arith}
 use lib.ListN.{length, getD, set, length-set, replicate, length-replicate, getD-replicate}
@@ -10,13 +10,28 @@ use lib.Seq.{getD-set-same, getD-set-other}
 use lib.Dec.{eqb}
 use borrow.Author.Tests.{eqb-true, eqb-false}
 use Rattle.base.specs.Bools.{true-or-false}
+use Rattle.base.specs.Choice.{pick}
 use Rattle.shapes.specs.Shapes.{stepsIn, SoundPattern}
 use Rattle.shapes.specs.declared.Pattern.{Pattern}
 use Rattle.covering.specs.Questions.{childrenLie}
 
+-- the numbers of two steps
+abbrev pub PairOfSteps : ℕ → ℕ → Type 0
+PairOfSteps v w = (1 ≤ v) × (v ≤ 16) × (1 ≤ w) × (w ≤ 16)
+
 -- the cell of a pair of steps
 unfoldable pub cellOf : ℕ → ℕ → ℕ
 cellOf v w = (v - 1) * 16 + (w - 1)
+
+-- an answer as it is noted
+unfoldable pub noteOf : Bool → ℕ
+noteOf true = 1
+noteOf false = 2
+
+-- what is known of a pair before a child is asked: what is noted of it where the first step may lie at the second, otherwise
+-- 2, that it doesn't
+unfoldable pub knownAt : Bool → ℕ → ℕ → List ℕ → ℕ
+knownAt may v w notes = pick may (getD notes (cellOf v w) 0) 2
 
 -- two well-formed patterns, and notes that are right about them: 1 where the children of a pair's first step lie below the
 -- second, 2 where they don't; any other number says nothing
@@ -54,14 +69,45 @@ cell-filled P cells v w n d full hv lv hw lw own other x y hx lx hy ly = go (tru
         rw (sx, sy, put) own
     go (inr q) = rw (getD-set-other cells (cellOf v w) (cellOf x y) n d (eqb-false (cellOf x y) (cellOf v w) q)) (other x y hx lx hy ly)
 
--- what was decided, put as a note, keeps the notes right
-pub note-put : (a b : Pattern) (notes : List ℕ) (v w n : ℕ) (r : Bool) → Noted a b notes → 1 ≤ v → v ≤ 16 → 1 ≤ w → w ≤ 16
-    → r ≡ childrenLie (stepsIn a) v (stepsIn b) w → (n ≡ 1 → r ≡ true) → (n ≡ 2 → r ≡ false)
-    → Noted a b (set notes (cellOf v w) n)
-note-put a b notes v w n r h hv lv hw lw e one two = record {
-  first = h .first;
-  second = h .second;
-  full = length-set notes (cellOf v w) n ∙ h .full;
-  lie = cell-filled (λ x y m. m ≡ 1 → childrenLie (stepsIn a) x (stepsIn b) y ≡ true) notes v w n 0 (h .full) hv lv hw lw (λ q. sym e ∙ one q) (h .lie);
-  don't = cell-filled (λ x y m. m ≡ 2 → childrenLie (stepsIn a) x (stepsIn b) y ≡ false) notes v w n 0 (h .full) hv lv hw lw (λ q. sym e ∙ two q) (h .don't);
-}
+-- an answer is noted as 1 only if it is yes
+noted-yes : (r : Bool) → noteOf r ≡ 1 → r ≡ true
+unfolding noteOf
+noted-yes true q = refl
+noted-yes false q = absurd (omega arith)
+
+-- and as 2 only if it is no
+noted-no : (r : Bool) → noteOf r ≡ 2 → r ≡ false
+unfolding noteOf
+noted-no true q = absurd (omega arith)
+noted-no false q = refl
+
+module _ (a b : Pattern) (notes : List ℕ) (h : Noted a b notes) (v w : ℕ) (pair : PairOfSteps v w) where
+  -- a step that is known to lie there does
+  pub known-lies : (may : Bool) (n : ℕ) → n ≡ knownAt may v w notes → n ≡ 1 → true ≡ (may && childrenLie (stepsIn a) v (stepsIn b) w)
+  unfolding knownAt pick
+  known-lies true n e q = sym (h .lie v w (pair .0) (pair .1) (pair .2) (pair .3) (sym e ∙ q))
+  known-lies false n e q = absurd (omega arith)
+
+  -- and one that is known not to doesn't
+  pub known-doesn't : (may : Bool) (n : ℕ) → n ≡ knownAt may v w notes → n ≡ 2 → false ≡ (may && childrenLie (stepsIn a) v (stepsIn b) w)
+  unfolding knownAt pick
+  known-doesn't true n e q = sym (h .don't v w (pair .0) (pair .1) (pair .2) (pair .3) (sym e ∙ q))
+  known-doesn't false n e q = refl
+
+  -- what was decided, put as a note, keeps the notes right
+  note-put : (r : Bool) → r ≡ childrenLie (stepsIn a) v (stepsIn b) w → Noted a b (set notes (cellOf v w) (noteOf r))
+  note-put r e = record {
+    first = h .first;
+    second = h .second;
+    full = length-set notes (cellOf v w) (noteOf r) ∙ h .full;
+    lie = cell-filled (λ x y m. m ≡ 1 → childrenLie (stepsIn a) x (stepsIn b) y ≡ true) notes v w (noteOf r) 0 (h .full) (pair .0) (pair .1) (pair .2) (pair .3) (λ q. sym e ∙ noted-yes r q) (h .lie);
+    don't = cell-filled (λ x y m. m ≡ 2 → childrenLie (stepsIn a) x (stepsIn b) y ≡ false) notes v w (noteOf r) 0 (h .full) (pair .0) (pair .1) (pair .2) (pair .3) (λ q. sym e ∙ noted-no r q) (h .don't);
+  }
+
+  -- otherwise its children decide, and their answer is noted
+  pub children-decide : (may : Bool) (n : ℕ) (before after : List ℕ) → n ≡ knownAt may v w before → (n ≡ 2 → ⊥) → (lie r : Bool) → lie ≡ childrenLie (stepsIn a) v (stepsIn b) w
+      → (r ≡ lie) × (after ≡ set notes (cellOf v w) (noteOf lie))
+      → (r ≡ (may && childrenLie (stepsIn a) v (stepsIn b) w)) × Noted a b after
+  unfolding knownAt pick
+  children-decide true n before after e o lie r d put = (put .0 ∙ d, rw (put .1) (note-put lie d))
+  children-decide false n before after e o lie r d put = absurd (o e)

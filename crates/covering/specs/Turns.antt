@@ -1,5 +1,5 @@
 -- One law for each way through the two loops: what is left of the steps from here on answers what all of them answer.
-use Prim.Native.Nat.{ℕ, suc, _+_, _≤_, _<_}
+use Prim.Native.Nat.{ℕ, suc, _+_, _-_, _≤_, _<_}
 use mathlib.Core.Path.{_≡_, sym, _∙_, ap}
 use mathlib.Core.Bool.{Bool, true, false, _&&_, _||_, and-assoc}
 use mathlib.Core.List.{List}
@@ -13,7 +13,7 @@ use Rattle.meaning.specs.Covering.{stepAt, mayLie, fitsAt, lays}
 use Rattle.meaning.specs.declared.Step.{Step}
 use Rattle.laws.specs.Children.{childrenFrom, childrenOf}
 use Rattle.shapes.specs.Shapes.{stepsIn, SoundPattern}
-use Rattle.shapes.specs.Steps.{stepIn, step-at, steps-from, steps-end, block-in, child-here, child-not, children-end}
+use Rattle.shapes.specs.Steps.{stepIn, step-at, step-number, steps-from, steps-end, block-in, child-here, child-not, children-end}
 use Rattle.shapes.specs.declared.Pattern.{Pattern}
 use Rattle.covering.specs.Places.{inReach, placeFrom, tried, place-found}
 use Rattle.covering.specs.Questions.{childrenLie, fitsStep, someFits, mayLieBelow, liesAt}
@@ -83,46 +83,24 @@ module _ (p : Pattern) (sound : SoundPattern p) (a : List Step) (k : ℕ) (s : S
   block-ends h l i = sym (rw (steps-from p sound u h, lt-ltb (stepIn p u .parent) w l)) ∙ i
 
   -- a place fits
-  pub place-fits : (m r : Bool) → u < p .count → w ≤ stepIn p u .parent → m ≡ mayLieBelow s w (stepIn p u) → m ≡ true
-      → r ≡ childrenLie a k (stepsIn p) (u + 1) → r ≡ true → restFits a k s (stepsIn p) w u ≡ whole → true ≡ whole
-  place-fits m r h l f d q t i =
-      let may : mayLieBelow s w (stepIn p u) ≡ true = sym f ∙ d in
-      let lie : childrenLie a k (stepsIn p) (suc u) ≡ true = sym (rw (add-one u) at q) ∙ t in
-      sym (rest-place h l ∙ rw (may, lie)) ∙ i
+  pub place-fits : (m r : Bool) → u < p .count → w ≤ stepIn p u .parent → m ≡ mayLieBelow s w (stepIn p u)
+      → r ≡ (m && childrenLie a k (stepsIn p) (u + 1)) → r ≡ true → restFits a k s (stepsIn p) w u ≡ whole → true ≡ whole
+  place-fits m r h l f q t i = sym (rest-place h l ∙ rw (← f, ← add-one, ← q, t)) ∙ i
 
-  -- the step may lie there, but not its children
-  pub children-don't : (m r : Bool) → u < p .count → w ≤ stepIn p u .parent → m ≡ mayLieBelow s w (stepIn p u) → m ≡ true
-      → r ≡ childrenLie a k (stepsIn p) (u + 1) → r ≡ false → restFits a k s (stepsIn p) w u ≡ whole
+  -- a place doesn't
+  pub place-doesn't : (m r : Bool) → u < p .count → w ≤ stepIn p u .parent → m ≡ mayLieBelow s w (stepIn p u)
+      → r ≡ (m && childrenLie a k (stepsIn p) (u + 1)) → r ≡ false → restFits a k s (stepsIn p) w u ≡ whole
       → restFits a k s (stepsIn p) w (u + 1) ≡ whole
-  children-don't m r h l f d q t i =
-      let may : mayLieBelow s w (stepIn p u) ≡ true = sym f ∙ d in
-      let lie : childrenLie a k (stepsIn p) (suc u) ≡ false = sym (rw (add-one u) at q) ∙ t in
-      rw (add-one u) (sym (rest-place h l ∙ rw (may, lie)) ∙ i)
-
-  -- the step may not lie there
-  pub step-doesn't : (m : Bool) → u < p .count → w ≤ stepIn p u .parent → m ≡ mayLieBelow s w (stepIn p u) → m ≡ false
-      → restFits a k s (stepsIn p) w u ≡ whole → restFits a k s (stepsIn p) w (u + 1) ≡ whole
-  step-doesn't m h l f d i =
-      let may : mayLieBelow s w (stepIn p u) ≡ false = sym f ∙ d in
-      rw (add-one u) (sym (rest-place h l ∙ rw may) ∙ i)
+  place-doesn't m r h l f q t i = rw add-one (sym (rest-place h l ∙ rw (← f, ← add-one, ← q, t)) ∙ i)
 
   -- the steps end
   pub steps-done : p .count ≤ u → restFits a k s (stepsIn p) w u ≡ whole → false ≡ whole
   unfolding restFits placeFrom
   steps-done h i = sym (rw (steps-end p sound u h)) ∙ i
 
--- a step can be laid at another if the label fits and its children lie, and not otherwise
-module _ (a b : List Step) (v w : ℕ) (s t : Step) (m : Bool) (hs : s ≡ stepAt a v) (ht : t ≡ stepAt b w) (hm : m ≡ anyOrSame (s .label) (t .label)) where
-  -- the label fits: the children decide
-  pub label-fits : (r : Bool) → m ≡ true → r ≡ childrenLie a v b w → r ≡ liesAt a v b w
-  unfolding liesAt
-  label-fits r e q =
-      let fits : anyOrSame (stepAt a v .label) (stepAt b w .label) ≡ true = sym (rw (hs, ht) at hm) ∙ e in
-      q ∙ sym (rw fits)
-
-  -- it doesn't
-  pub label-doesn't : m ≡ false → false ≡ liesAt a v b w
-  unfolding liesAt
-  label-doesn't e =
-      let fails : anyOrSame (stepAt a v .label) (stepAt b w .label) ≡ false = sym (rw (hs, ht) at hm) ∙ e in
-      sym (rw fails)
+-- a step can be laid at another exactly if its label fits and its children lie
+pub label-and-children : (p q : Pattern) → SoundPattern p → SoundPattern q → (v w : ℕ) → 1 ≤ v → v ≤ p .count → 1 ≤ w → w ≤ q .count
+    → (m r : Bool) → m ≡ anyOrSame (stepIn p (v - 1) .label) (stepIn q (w - 1) .label) → r ≡ (m && childrenLie (stepsIn p) v (stepsIn q) w)
+    → r ≡ liesAt (stepsIn p) v (stepsIn q) w
+unfolding liesAt
+label-and-children p q sp sq v w hv lv hw lw m r fits e = rw (fits, step-number p sp v hv lv, step-number q sq w hw lw) at e

@@ -2,13 +2,14 @@
 use meaning::Step;
 use shapes::Pattern;
 ghost use mathlib.Core.Path.{_≡_};
-ghost use Prim.Native.Nat.{_≤_};
+ghost use Prim.Native.Nat.{_≤_, _<_};
+ghost use lib.ListN.{length, set};
 ghost use Rattle.meaning.specs.Forest.{axisOf};
 ghost use Rattle.meaning.specs.Satisfying.{anyOrSame};
 ghost use Rattle.meaning.specs.Covering.{mayLie, covers};
 ghost use Rattle.shapes.specs.Shapes.{patternOf, stepsIn, SoundPattern};
 ghost use Rattle.covering.specs.Questions.{mayLieBelow, childrenLie, someFits, liesAt};
-ghost use Rattle.covering.specs.Notes.{Noted};
+ghost use Rattle.covering.specs.Notes.{PairOfSteps, cellOf, noteOf, knownAt, Noted};
 
 // The label is any, or the same.
 fn any_or_same(l: u8, m: u8) -> bool
@@ -35,6 +36,32 @@ fn may_lie_below(s: Step, w: usize, t: Step) -> bool
         return false;
     }
     may_lie(s, t)
+}
+
+// The cell of the note about a pair of steps.
+fn cell(v: usize, w: usize) -> usize
+    requires { ⌜ PairOfSteps v w ⌝ }
+    ensures { λ r. ⌜ (r ≡ cellOf v w) × (r < 256) ⌝ }
+{
+    (v - 1) * 16 + (w - 1)
+}
+
+// What is known of step v of A at step w of B before its children are asked: 1 that it lies there, 2 that it doesn't.
+// Where it may by itself, what is noted of its children decides.
+fn known_at(may: bool, v: usize, w: usize, notes: &[u8; 256]) -> u8
+    requires { ⌜ PairOfSteps v w ⌝ }
+    ensures { λ r. ⌜ r ≡ knownAt may v w (now (notes .entry)) ⌝ }
+{
+    if may { notes[cell(v, w)] } else { 2 }
+}
+
+// Notes whether the children of v lie below w, and hands the answer on.
+fn note(v: usize, w: usize, lie: bool, notes: &mut [u8; 256]) -> bool
+    requires { ⌜ (length (now notes) ≡ 256) × PairOfSteps v w ⌝ }
+    ensures { λ r. ⌜ (r ≡ lie) × (now (notes .exit) ≡ set (now (notes .entry)) (cellOf v w) (noteOf lie)) ⌝ }
+{
+    notes[cell(v, w)] = if lie { 1 } else { 2 };
+    lie
 }
 
 // All children of step v of A find a place below step w of B.
@@ -68,35 +95,17 @@ fn some_fits(a: Pattern, k: usize, b: Pattern, w: usize, notes: &mut [u8; 256]) 
             return false;
         }
         u += 1;
-        if may_lie_below(s, w, t) {
-            if children_lie(a, k, b, u, notes) {
+        let known = known_at(may_lie_below(s, w, t), k, u, notes);
+        if known == 1 {
+            return true;
+        }
+        if known != 2 {
+            if note(k, u, all_lie(a, k, b, u, notes), notes) {
                 return true;
             }
         }
     }
     false
-}
-
-// All children of step v of A find a place below step w of B: as noted, or decided now and noted.
-fn children_lie(a: Pattern, v: usize, b: Pattern, w: usize, notes: &mut [u8; 256]) -> bool
-    requires { ⌜ Noted a b (now notes) × (1 ≤ v) × (v ≤ a .count) × (1 ≤ w) × (w ≤ b .count) ⌝ }
-    ensures { λ r. ⌜ (r ≡ childrenLie (stepsIn a) v (stepsIn b) w) × Noted a b (now (notes .exit)) ⌝ }
-{
-    let cell = (v - 1) * 16 + (w - 1);
-    let note = notes[cell];
-    if note == 1 {
-        return true;
-    }
-    if note == 2 {
-        return false;
-    }
-    if all_lie(a, v, b, w, notes) {
-        notes[cell] = 1;
-        true
-    } else {
-        notes[cell] = 2;
-        false
-    }
 }
 
 // Step v of A can be laid at step w of B: label and children, axes aside.
@@ -106,11 +115,14 @@ pub fn lies_at(a: Pattern, v: usize, b: Pattern, w: usize, notes: &mut [u8; 256]
 {
     let s = a.steps[v - 1];
     let t = b.steps[w - 1];
-    if any_or_same(s.label, t.label) {
-        children_lie(a, v, b, w, notes)
-    } else {
-        false
+    let known = known_at(any_or_same(s.label, t.label), v, w, notes);
+    if known == 1 {
+        return true;
     }
+    if known == 2 {
+        return false;
+    }
+    note(v, w, all_lie(a, v, b, w, notes), notes)
 }
 
 // A covers B, by notes of earlier questions about the two.

@@ -1,6 +1,7 @@
--- The proof of the cycle of calls {all_lie, children_lie, some_fits}. The measures fall with the steps of A that are left.
-use mathlib.Core.Path.{_≡_, refl, sym}
+-- The proof of the cycle of calls {all_lie, some_fits}. The measures fall with the steps of A that are left.
+use mathlib.Core.Path.{_≡_, refl}
 use Prim.Native.Nat.{ℕ, _+_, _*_, _-_, _≤_, _<_}
+use mathlib.Core.Bool.{true, false}
 use native.Mathlib.Omega.{arith}
 use borrow.Author.Needs.{needs}
 use borrow.Author.Tests.{not-true, not-false}
@@ -10,30 +11,26 @@ use Rattle.laws.specs.Children.{childrenOf}
 use Rattle.shapes.specs.Shapes.{stepsIn}
 use Rattle.shapes.specs.Steps.{stepIn, step-number}
 use Rattle.covering.specs.Questions.{childrenLie, someFits}
-use Rattle.covering.specs.Notes.{Noted, cellOf, note-put}
+use Rattle.covering.specs.Notes.{Noted, PairOfSteps, known-lies, known-doesn't, children-decide}
 use Rattle.covering.specs.Turns.{restLie, child-lies, child-doesn't, no-child, all-lay}
-use Rattle.covering.specs.Turns.{restFits, search-starts, block-ends, place-fits, children-don't, step-doesn't, steps-done}
+use Rattle.covering.specs.Turns.{restFits, search-starts, block-ends, place-fits, place-doesn't, steps-done}
 use Rattle.covering.proofs.all_lie.Reads as all-lie
 use Rattle.covering.proofs.all_lie.Kinds as all-lie-kinds
-use Rattle.covering.proofs.+all_lie+children_lie+some_fits.Lts-all_lie as all-lie-lts
-use Rattle.covering.proofs.children_lie.Reads as children-lie
-use Rattle.covering.proofs.children_lie.Kinds as children-lie-kinds
-use Rattle.covering.proofs.+all_lie+children_lie+some_fits.Lts-children_lie as children-lie-lts
+use Rattle.covering.proofs.+all_lie+some_fits.Lts-all_lie as all-lie-lts
 use Rattle.covering.proofs.some_fits.Reads as some-fits
 use Rattle.covering.proofs.some_fits.Kinds as some-fits-kinds
-use Rattle.covering.proofs.+all_lie+children_lie+some_fits.Lts-some_fits as some-fits-lts
+use Rattle.covering.proofs.+all_lie+some_fits.Lts-some_fits as some-fits-lts
 use Rattle.covering.proofs.may_lie_below.Reads as may-lie-below
-use Rattle.covering.proofs.+all_lie+children_lie+some_fits.{statement}
-use Rattle.covering.proofs.+all_lie+children_lie+some_fits.Tie.{close}
+use Rattle.covering.proofs.known_at.Reads as known-at
+use Rattle.covering.proofs.note.Reads as note
+use Rattle.covering.proofs.+all_lie+some_fits.{statement}
+use Rattle.covering.proofs.+all_lie+some_fits.Tie.{close}
 
 abbrev μ-all-lie : Measures 1 all-lie-kinds.ps ℕ
-μ-all-lie κs a = 3 * (a .0 .count - a .1 .0)
-
-abbrev μ-children-lie : Measures 1 children-lie-kinds.ps ℕ
-μ-children-lie κs a = 3 * (a .0 .count - a .1 .0) + 1
+μ-all-lie κs a = 2 * (a .0 .count - a .1 .0)
 
 abbrev μ-some-fits : Measures 1 some-fits-kinds.ps ℕ
-μ-some-fits κs a = 3 * (a .0 .count - a .1 .0) + 2
+μ-some-fits κs a = 2 * (a .0 .count - a .1 .0) + 1
 
 -- what each is given at the measure t, and what a call of it asks below t
 abbrev all-lie-at : ℕ → In 1 all-lie-kinds.ps
@@ -41,12 +38,6 @@ all-lie-at t = and 1 all-lie-kinds.ps (is 1 all-lie-kinds.ps μ-all-lie t) all-l
 
 abbrev all-lie-below : ℕ → In 1 all-lie-kinds.ps
 all-lie-below t = and 1 all-lie-kinds.ps (falls 1 all-lie-kinds.ps _<_ μ-all-lie t) all-lie.Pre
-
-abbrev children-lie-at : ℕ → In 1 children-lie-kinds.ps
-children-lie-at t = and 1 children-lie-kinds.ps (is 1 children-lie-kinds.ps μ-children-lie t) children-lie.Pre
-
-abbrev children-lie-below : ℕ → In 1 children-lie-kinds.ps
-children-lie-below t = and 1 children-lie-kinds.ps (falls 1 children-lie-kinds.ps _<_ μ-children-lie t) children-lie.Pre
 
 abbrev some-fits-at : ℕ → In 1 some-fits-kinds.ps
 some-fits-at t = and 1 some-fits-kinds.ps (is 1 some-fits-kinds.ps μ-some-fits t) some-fits.Pre
@@ -110,44 +101,6 @@ all-lie-returns-2 t c =
     let sound = l .inv .0 .first in
     (all-lay (s .t1) sound (s .v) (l .k) (stepsIn (s .b)) (s .w) _ (omega arith) (l .inv .3), l .inv .0)
 
--- ---- children_lie: a note is right, and stays so
-abbrev ChildrenLie : (children-lie-lts.Claims → In 1 children-lie-kinds.ps → Out 1 children-lie-kinds.ps children-lie-kinds.r → Type 0) → Type 0
-ChildrenLie need = (t : ℕ) → need (all-lie-below t, all-lie.Post) (children-lie-at t) children-lie.Post
-
-children-lie-returns : ChildrenLie children-lie-lts.Need-returns
-unfolding cellOf
-children-lie-returns t c =
-    let s = c .before .before in
-    let h = s .pre .1 .0 in
-    (sym (h .lie (s .args .v) (s .args .w) (omega arith) (omega arith) (omega arith) (omega arith) (c .if1 .taken)), h)
-
-children-lie-returns-2 : ChildrenLie children-lie-lts.Need-returns-2
-unfolding cellOf
-children-lie-returns-2 t c =
-    let s = c .before .before .before in
-    let h = s .pre .1 .0 in
-    (sym (h .don't (s .args .v) (s .args .w) (omega arith) (omega arith) (omega arith) (omega arith) (c .if2 .taken)), h)
-
-children-lie-returns-3 : ChildrenLie children-lie-lts.Need-returns-3
-unfolding cellOf
-children-lie-returns-3 t c =
-    let s = c .before .before .before .before .before .before .args in
-    let d = c .before .all-lie in (
-      rw (c .if3 .taken) at (d .ensures .0),
-      note-put (s .a) (s .b) (d .last .1 .1 .1 .1 .0) (s .v) (s .w) 1 (d .result) (d .ensures .1) (omega arith) (omega arith) (omega arith) (omega arith)
-          (d .ensures .0) (λ q. c .if3 .taken) (λ q. absurd (omega arith)),
-    )
-
-children-lie-returns-4 : ChildrenLie children-lie-lts.Need-returns-4
-unfolding cellOf
-children-lie-returns-4 t c =
-    let s = c .before .before .before .before .before .before .args in
-    let d = c .before .all-lie in (
-      rw (c .if3 .left) at (d .ensures .0),
-      note-put (s .a) (s .b) (d .last .1 .1 .1 .1 .0) (s .v) (s .w) 2 (d .result) (d .ensures .1) (omega arith) (omega arith) (omega arith) (omega arith)
-          (d .ensures .0) (λ q. absurd (omega arith)) (λ q. c .if3 .left),
-    )
-
 -- ---- some_fits: some place from place u on fits exactly if some does
 abbrev some-fits-Inv-loop : some-fits-lts.InvT-loop
 some-fits-Inv-loop k w notes₀ a b s u₀ notes u =
@@ -158,7 +111,8 @@ some-fits-μ-loop k w notes₀ a b s u₀ notes u = b .count - u
 
 abbrev SomeFits : (some-fits-lts.Claims → In 1 some-fits-kinds.ps → Out 1 some-fits-kinds.ps some-fits-kinds.r → some-fits-lts.InvT-loop → some-fits-lts.MeasureT-loop → Type 0) → Type 0
 SomeFits need =
-    (t : ℕ) → need (may-lie-below.Asked, may-lie-below.Learnt, children-lie-below t, children-lie.Post) (some-fits-at t) some-fits.Post some-fits-Inv-loop some-fits-μ-loop
+    (t : ℕ) → need (may-lie-below.Asked, may-lie-below.Learnt, known-at.Asked, known-at.Learnt, all-lie-below t, all-lie.Post, note.Asked, note.Learnt) (some-fits-at t)
+    some-fits.Post some-fits-Inv-loop some-fits-μ-loop
 
 some-fits-loop-holds : SomeFits some-fits-lts.Need-loop-holds
 unfolding stepIn
@@ -184,59 +138,97 @@ some-fits-returns t c =
 some-fits-returns-2 : SomeFits some-fits-lts.Need-returns-2
 unfolding stepIn
 some-fits-returns-2 t c =
-    let s = c .before .before .before .before .before .before .before .before .before .before .before .args in
-    let l = c .before .before .before .before .before .before .before .before .before .loop in
-    let sound = l .inv .0 .second in
+    let q = c .before in
+    let m = q .before .before in
+    let l = m .before .before .before .before .before in
+    let s = l .before .before .args in
+    let h = l .loop .inv .0 in
     let x = stepIn (s .t1) (s .k - 1) in
-    let may = c .before .before .before .before .may-lie-below in
-    let lie = c .before .children-lie in (
-      place-fits (s .t3) sound (stepsIn (s .t1)) (s .k) x (s .w) (l .u) _ (may .result) (lie .result) (omega arith) (c .before .before .before .before .before .if1 .left)
-          (may .ensures) (c .before .before .before .if2 .taken) (lie .ensures .0) (c .if3 .taken) (l .inv .3),
-      lie .ensures .1,
-    )
-
-some-fits-loop-again : SomeFits some-fits-lts.Need-loop-again
-unfolding stepIn
-some-fits-loop-again t c =
-    let s = c .before .before .before .before .before .before .before .before .before .before .before .args in
-    let l = c .before .before .before .before .before .before .before .before .before .loop in
-    let sound = l .inv .0 .second in
-    let x = stepIn (s .t1) (s .k - 1) in
-    let may = c .before .before .before .before .may-lie-below in
-    let lie = c .before .children-lie in (
-      lie .ensures .1,
-      omega arith,
-      omega arith,
-      children-don't (s .t3) sound (stepsIn (s .t1)) (s .k) x (s .w) (l .u) _ (may .result) (lie .result) (omega arith) (c .before .before .before .before .before .if1 .left)
-          (may .ensures) (c .before .before .before .if2 .taken) (lie .ensures .0) (c .if3 .left) (l .inv .3),
-    )
-
-some-fits-loop-again-2 : SomeFits some-fits-lts.Need-loop-again-2
-unfolding stepIn
-some-fits-loop-again-2 t c =
-    let s = c .before .before .before .before .before .before .before .before .args in
-    let l = c .before .before .before .before .before .before .loop in
-    let sound = l .inv .0 .second in
-    let x = stepIn (s .t1) (s .k - 1) in
-    let may = c .before .may-lie-below in (
-      l .inv .0,
-      omega arith,
-      omega arith,
-      step-doesn't (s .t3) sound (stepsIn (s .t1)) (s .k) x (s .w) (l .u) _ (may .result) (omega arith) (c .before .before .if1 .left) (may .ensures) (c .if2 .left) (l .inv .3),
+    let may = m .may-lie-below in
+    let pair : PairOfSteps (s .k) (l .loop .u + 1) = omega arith in (
+      place-fits (s .t3) (h .second) (stepsIn (s .t1)) (s .k) x (s .w) (l .loop .u) _ (may .result) true (omega arith) (m .before .if1 .left) (may .ensures)
+          (known-lies (s .t1) (s .t3) _ h (s .k) (l .loop .u + 1) pair (may .result) (q .known-at .result) (q .known-at .ensures) (c .if2 .taken)) refl (l .loop .inv .3),
+      h,
     )
 
 some-fits-returns-3 : SomeFits some-fits-lts.Need-returns-3
 unfolding stepIn
 some-fits-returns-3 t c =
+    let d = c .before .before .before in
+    let o = d .before .before in
+    let q = o .before .before in
+    let m = q .before .before in
+    let i = m .before .before .before .before in
+    let l = i .before in
+    let s = l .before .before .args in
+    let h = l .loop .inv .0 in
+    let x = stepIn (s .t1) (s .k - 1) in
+    let may = m .may-lie-below in
+    let below = i .loop-test .taken in
+    let pair : PairOfSteps (s .k) (l .loop .u + 1) = omega arith in
+    let n = c .before .note in
+    let r = children-decide (s .t1) (s .t3) _ (d .all-lie .ensures .1) (s .k) (l .loop .u + 1) pair (may .result) (q .known-at .result) _ _ (q .known-at .ensures) (o .if3 .taken)
+    (d .all-lie .result) (n .result) (d .all-lie .ensures .0) (n .ensures) in (
+      place-fits (s .t3) (h .second) (stepsIn (s .t1)) (s .k) x (s .w) (l .loop .u) _ (may .result) (n .result) below (m .before .if1 .left) (may .ensures)
+          (r .0) (c .if4 .taken) (l .loop .inv .3),
+      r .1,
+    )
+
+some-fits-loop-again : SomeFits some-fits-lts.Need-loop-again
+unfolding stepIn
+some-fits-loop-again t c =
+    let d = c .before .before .before in
+    let o = d .before .before in
+    let q = o .before .before in
+    let m = q .before .before in
+    let i = m .before .before .before .before in
+    let l = i .before in
+    let s = l .before .before .args in
+    let h = l .loop .inv .0 in
+    let x = stepIn (s .t1) (s .k - 1) in
+    let may = m .may-lie-below in
+    let below = i .loop-test .taken in
+    let pair : PairOfSteps (s .k) (l .loop .u + 1) = omega arith in
+    let n = c .before .note in
+    let r = children-decide (s .t1) (s .t3) _ (d .all-lie .ensures .1) (s .k) (l .loop .u + 1) pair (may .result) (q .known-at .result) _ _ (q .known-at .ensures) (o .if3 .taken)
+    (d .all-lie .result) (n .result) (d .all-lie .ensures .0) (n .ensures) in (
+      r .1,
+      omega arith,
+      omega arith,
+      place-doesn't (s .t3) (h .second) (stepsIn (s .t1)) (s .k) x (s .w) (l .loop .u) _ (may .result) (n .result) below (m .before .if1 .left) (may .ensures)
+          (r .0) (c .if4 .left) (l .loop .inv .3),
+    )
+
+some-fits-loop-again-2 : SomeFits some-fits-lts.Need-loop-again-2
+unfolding stepIn
+some-fits-loop-again-2 t c =
+    let q = c .before .before in
+    let m = q .before .before in
+    let l = m .before .before .before .before .before in
+    let s = l .before .before .args in
+    let h = l .loop .inv .0 in
+    let x = stepIn (s .t1) (s .k - 1) in
+    let may = m .may-lie-below in
+    let pair : PairOfSteps (s .k) (l .loop .u + 1) = omega arith in (
+      h,
+      omega arith,
+      omega arith,
+      place-doesn't (s .t3) (h .second) (stepsIn (s .t1)) (s .k) x (s .w) (l .loop .u) _ (may .result) false (omega arith) (m .before .if1 .left) (may .ensures)
+          (known-doesn't (s .t1) (s .t3) _ h (s .k) (l .loop .u + 1) pair (may .result) (q .known-at .result) (q .known-at .ensures) (c .if3 .left)) refl (l .loop .inv .3),
+    )
+
+some-fits-returns-4 : SomeFits some-fits-lts.Need-returns-4
+unfolding stepIn
+some-fits-returns-4 t c =
     let s = c .before .before .before .args in
     let l = c .before .loop in
     let sound = l .inv .0 .second in
     let x = stepIn (s .t1) (s .k - 1) in
     (steps-done (s .t3) sound (stepsIn (s .t1)) (s .k) x (s .w) (l .u) _ (omega arith) (l .inv .3), l .inv .0)
 
-pub +all-lie+children-lie+some-fits-spec : {M : Type 1} → statement M
-+all-lie+children-lie+some-fits-spec =
-    close μ-all-lie μ-children-lie μ-some-fits (λ t. all-lie-lts.spec (
+pub +all-lie+some-fits-spec : {M : Type 1} → statement M
++all-lie+some-fits-spec =
+    close μ-all-lie μ-some-fits (λ t. all-lie-lts.spec (
       some-fits-below t,
       some-fits.Post,
     )
@@ -256,27 +248,15 @@ pub +all-lie+children-lie+some-fits-spec : {M : Type 1} → statement M
     (λ c. omega arith)
     (all-lie-loop-again-2 t)
     (all-lie-returns-2 t))
-    (λ t. children-lie-lts.spec
-    (all-lie-below t, all-lie.Post)
-    (children-lie-at t)
-    children-lie.Post
-    (λ c. omega arith)
-    (λ c. omega arith)
-    (λ c. omega arith)
-    (λ c. omega arith)
-    (λ c. omega arith)
-    (children-lie-returns t)
-    (children-lie-returns-2 t)
-    (λ c κs. (omega arith, (c .before .before .before .before .pre .1 .0, omega arith, omega arith)))
-    (λ c. omega arith)
-    (λ c. omega arith)
-    (children-lie-returns-3 t)
-    (children-lie-returns-4 t))
     λ t. some-fits-lts.spec (
       may-lie-below.Asked,
       may-lie-below.Learnt,
-      children-lie-below t,
-      children-lie.Post,
+      known-at.Asked,
+      known-at.Learnt,
+      all-lie-below t,
+      all-lie.Post,
+      note.Asked,
+      note.Learnt,
     )
     (some-fits-at t)
     some-fits.Post
@@ -292,10 +272,13 @@ pub +all-lie+children-lie+some-fits-spec : {M : Type 1} → statement M
     (some-fits-returns t)
     (λ c. omega arith)
     (λ c κs. tt)
-    (λ c κs. (omega arith, (c .before .before .before .before .before .before .before .loop .inv .0, omega arith, omega arith, omega arith, omega arith)))
+    (λ c κs. omega arith)
     (some-fits-returns-2 t)
+    (λ c κs. (omega arith, (c .before .before .before .before .before .before .before .before .before .before .loop .inv .0, omega arith, omega arith)))
+    (λ c κs. (c .before .all-lie .ensures .1 .full, omega (arith, c .before .before .before .before .before .before .before .before .before .before .before .loop-test .taken)))
+    (some-fits-returns-3 t)
     (λ c. omega arith)
     (some-fits-loop-again t)
     (λ c. omega arith)
     (some-fits-loop-again-2 t)
-    (some-fits-returns-3 t)
+    (some-fits-returns-4 t)
