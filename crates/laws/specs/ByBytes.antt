@@ -11,18 +11,20 @@ use lib.Dec.{eqb, leb, ltb}
 use lib.ListN.{length, length-append}
 use Rattle.base.specs.Bools.{and-first, and-second, and-both, or-cases, or-first, or-second, true-or-false}
 use Rattle.base.specs.Lists.{some, numbersFrom}
+use Rattle.base.specs.Replacing.{place-in}
 use Rattle.base.specs.SomeNumber.{some-number, some-number-of}
 use Rattle.meaning.specs.Reader.{read}
 use Rattle.meaning.specs.Forest.{Forest, none, step, reaches}
-use Rattle.meaning.specs.Sections.{Sheet, Document, document, Node, aNode, nodes}
+use Rattle.meaning.specs.Sections.{Sheet, sheet, Document, document, Node, aNode, nodes}
 use Rattle.meaning.specs.Satisfying.{anyOrSame, parentsOf, labelIn, fitsBelow, holdBelow, satisfies}
 use Rattle.meaning.specs.LabelBytes.{labelsOf, labelAt}
+use Rattle.meaning.specs.Calls.{isSubscription, subscription}
 use Rattle.meaning.specs.ByBytes.{AnyOrSameBytes, AllHoldBelow, Satisfied}
 use Rattle.laws.specs.Readers.{give-read, bind-read, test-read, byte-read}
 use Rattle.laws.specs.DocumentRead.{document-read}
-use Rattle.laws.specs.RoundTrip.{labels-read}
-use Rattle.laws.specs.MergeLabels.{LabelsWithin}
-use Rattle.laws.specs.Labels.{Distinct}
+use Rattle.laws.specs.RoundTrip.{labels-read, sheet-read}
+use Rattle.laws.specs.MergeLabels.{LabelsWithin, labels-more}
+use Rattle.laws.specs.Labels.{Distinct, document-distinct}
 
 -- ---- a node's label is one of the sheet's or of the document's
 
@@ -62,7 +64,7 @@ nodes-known known (suc n) k bs left ds h =
     (nodes-known known n (suc k) (one .middle) (more .middle) (more .value) (more .before)))
 
 -- and so have those of a document that was read
-pub document-known : (sh : Sheet) (d rest : List ℕ) (dc : Document) → document sh d ≡ read dc rest → AllKnown (length (labelsOf sh dc)) (dc .nodes)
+document-known : (sh : Sheet) (d rest : List ℕ) (dc : Document) → document sh d ≡ read dc rest → AllKnown (length (labelsOf sh dc)) (dc .nodes)
 unfolding labelsOf
 document-known sh d rest dc h =
     let r = document-read sh d rest dc h in
@@ -134,6 +136,22 @@ module _ (ls : List (List ℕ)) (apart : Distinct ls) where
         (bytes-numbers later (w .2) t more)
 
     -- a document satisfies a pattern exactly if it does by label bytes
-    pub satisfies-by-bytes : (p : Forest) → LabelsWithin (length ls) p → (satisfies ns p ≡ true) ↔ Satisfied ls ns p
+    satisfies-by-bytes : (p : Forest) → LabelsWithin (length ls) p → (satisfies ns p ≡ true) ↔ Satisfied ls ns p
     unfolding satisfies
     satisfies-by-bytes p w = (numbers-bytes p 0, bytes-numbers p w 0)
+
+-- ---- of a sheet and a document that were read
+
+module _ (s left : List ℕ) (sh : Sheet) (was-read : sheet s ≡ read sh left) (d rest : List ℕ) (dc : Document) (doc-read : document sh d ≡ read dc rest) where
+  -- a subscription's labels are the sheet's
+  labels-known : (i : ℕ) → isSubscription sh i ≡ true → LabelsWithin (length (labelsOf sh dc)) (subscription sh i)
+  unfolding isSubscription subscription labelsOf
+  labels-known i h =
+      labels-more (length (sh .labels)) (length (sh .labels ++ dc .labels)) (omega (arith, length-append (sh .labels) (dc .labels))) (subscription sh i)
+      (sheet-read s left sh was-read .sound _ (place-in (sh .patterns) i none (ltb-true i (length (sh .patterns)) h)) .within)
+
+  -- the document satisfies a subscription exactly if it does by label bytes
+  pub read-by-bytes : (i : ℕ) → isSubscription sh i ≡ true → (satisfies (dc .nodes) (subscription sh i) ≡ true) ↔ Satisfied (labelsOf sh dc) (dc .nodes) (subscription sh i)
+  read-by-bytes i there =
+      satisfies-by-bytes (labelsOf sh dc) (document-distinct s left sh was-read d rest dc doc-read) (dc .nodes) (document-known sh d rest dc doc-read) (subscription sh i)
+      (labels-known i there)

@@ -2,22 +2,16 @@
 -- and numbers, by its promise (`meaning`, Promises); this page says of the answers what the customer asked for. Many theorems
 -- speak of a sheet and a document as they were read: `sheet-of-0` and `document-of-0` give that where the number is 0.
 use Prim.Native.Nat.{ℕ, suc, _+_, _≤_, _<_}
-use mathlib.Core.Path.{_≡_, refl, sym, ap, _∙_}
+use mathlib.Core.Path.{_≡_, refl, sym, ap}
 use mathlib.Core.Logic.{_⊎_, inl, inr, _↔_}
-use mathlib.Core.Bool.{Bool, true, false, true≢false}
-use mathlib.Core.List.{List, [], _++_, map, List·Memᴰ}
-use native.Mathlib.Omega.{arith}
-use native.Mathlib.Nat.{zero-add}
-use borrow.Author.Tests.{ltb-true, ltb-false}
-use lib.Dec.{leb, ltb}
-use lib.ListN.{length, getD, take, drop, length-append, length-map, List·getD-eq-default}
-use lib.Seq.{take-at}
-use Rattle.base.specs.Bools.{not-both, true-or-false}
+use mathlib.Core.Bool.{Bool, true, false}
+use mathlib.Core.List.{List, [], List·Memᴰ}
+use borrow.Author.Tests.{ltb-true}
+use lib.ListN.{length, take}
+use Rattle.base.specs.Bools.{not-both}
 use Rattle.base.specs.Choice.{pick}
-use Rattle.base.specs.Mapping.{getD-map}
-use Rattle.base.specs.Replacing.{place-in}
-use Rattle.meaning.specs.Numbers.{mostSteps, noRoom, notThere}
-use Rattle.meaning.specs.Reader.{Reading, read, refused, Went, Reader}
+use Rattle.meaning.specs.Numbers.{mostSteps, notThere}
+use Rattle.meaning.specs.Reader.{read, refused, Went, Reader}
 use Rattle.meaning.specs.Forest.{Forest, none, stepsOf}
 use Rattle.meaning.specs.Sections.{Sheet, sheet, Document, document, Entry}
 use Rattle.meaning.specs.Satisfying.{satisfies}
@@ -25,11 +19,11 @@ use Rattle.meaning.specs.Covering.{Laying, covers}
 use Rattle.meaning.specs.Merging.{merge}
 use Rattle.meaning.specs.Building.{stepsTogether, entriesFrom, settle, build}
 use Rattle.meaning.specs.Fair.{isMember, entriesOf}
-use Rattle.meaning.specs.Routing.{deliverySet, plainRoute, tableRoute, tried}
+use Rattle.meaning.specs.Routing.{plainRoute, tableRoute, tried}
 use Rattle.meaning.specs.LabelBytes.{labelsOf, isLabel, labelAt}
 use Rattle.meaning.specs.ByBytes.{Satisfied}
 use Rattle.meaning.specs.Written.{patternBytes, sheetBytes, tableBytes}
-use Rattle.meaning.specs.Calls.{judged, fairTable, isSubscription, subscription, sheetNumber, documentNumber, tableNumber, matchesAnswer, coversAnswer, Writing, refuses, writes, withRoom, after, mergeWriting, mergeAnswer, buildWriting, buildAnswer, plainAnswer, tableAnswer, labelNumber, labelPart}
+use Rattle.meaning.specs.Calls.{judged, fairTable, isSubscription, subscription, sheetNumber, documentNumber, tableNumber, matchesAnswer, coversAnswer, refuses, writes, withRoom, after, mergeWriting, mergeAnswer, buildWriting, buildAnswer, plainAnswer, tableAnswer, labelNumber, labelPart}
 use Rattle.meaning.specs.Printing.{asking}
 use Rattle.meaning.specs.Given.{Given, refusal, gives, ToldByNumber, askedGiven, MergeValues, mergedGiven, BuildValues, builtGiven, routedGiven, RouteValues, tabledGiven}
 use Rattle.meaning.specs.Promises.{MatchesGives, CoversGives, MergeGives, BuildGives, PlainRouteGives, TableRouteGives}
@@ -43,17 +37,15 @@ use Rattle.laws.specs.Bridge.{forest-stepsOf}
 use Rattle.laws.specs.WrittenRising.{written-rises}
 use Rattle.laws.specs.Layings.{lays-of-laying, laying-of-lays}
 use Rattle.laws.specs.Labels.{document-distinct}
-use Rattle.laws.specs.MergeLabels.{LabelsWithin, labels-more}
 use Rattle.laws.specs.LabelsStand.{StandsIn, sheet-label-stands, document-label-stands}
-use Rattle.laws.specs.ByBytes.{document-known, same-number, satisfies-by-bytes}
+use Rattle.laws.specs.ByBytes.{same-number, read-by-bytes}
 use Rattle.laws.specs.Judged.{document-rises}
 use Rattle.laws.specs.RoundTrip.{sheet-read}
 use Rattle.laws.specs.Merging.{merge-covers-first, merge-covers-second}
-use Rattle.laws.specs.Members.{member-delivery}
-use Rattle.laws.specs.Standing.{Stands, only-one, stands-gives, fair-gives, each-gives}
+use Rattle.laws.specs.Standing.{fair-just-one}
 use Rattle.laws.specs.Rounds.{build-within, build-rounds}
-use Rattle.laws.specs.Passing.{build-passes}
-use Rattle.laws.specs.Routes.{table-is-plain, fair-table-fair}
+use Rattle.laws.specs.Passing as built
+use Rattle.laws.specs.Routes.{table-is-plain, fair-table-fair, delivered-bit}
 use Rattle.laws.specs.Cases as cases
 
 -- ======== 1. "Every call may be given arbitrary bytes and numbers. It ends, reads and writes only inside what it was lent, and
@@ -210,23 +202,12 @@ module _ (s left : List ℕ) (sh : Sheet) (was-read : sheet s ≡ read sh left) 
     labels-by-bytes l m k n =
         (ap (labelAt (labelsOf sh dc)), same-number (labelsOf sh dc) (document-distinct s left sh was-read d rest dc doc-read) l m k n)
 
-    -- a subscription's labels are the sheet's
-    labels-known : (i : ℕ) → isSubscription sh i ≡ true → LabelsWithin (length (labelsOf sh dc)) (subscription sh i)
-    unfolding isSubscription subscription labelsOf
-    labels-known i h =
-        labels-more (length (sh .labels)) (length (sh .labels ++ dc .labels)) (omega (arith, length-append (sh .labels) (dc .labels))) (subscription sh i)
-        (sheet-read s left sh was-read .sound _ (place-in (sh .patterns) i none (ltb-true i (length (sh .patterns)) h)) .within)
-
-    by-bytes : (i : ℕ) → isSubscription sh i ≡ true → (satisfies (dc .nodes) (subscription sh i) ≡ true) ↔ Satisfied (labelsOf sh dc) (dc .nodes) (subscription sh i)
-    by-bytes i there =
-        satisfies-by-bytes (labelsOf sh dc) (document-distinct s left sh was-read d rest dc doc-read) (dc .nodes) (document-known sh d rest dc doc-read) (subscription sh i) (labels-known i there)
-
     -- for the number of a subscription that exists the answer is yes exactly if the document satisfies it, where a step's label
     -- and a node's are the same exactly if their bytes are
     pub matching : (i : ℕ) → isSubscription sh i ≡ true → Decided (matchesAnswer s d i) (Satisfied (labelsOf sh dc) (dc .nodes) (subscription sh i))
     unfolding matchesAnswer judged pick
     matching i there =
-        decided (matchesAnswer s d i) (satisfies (dc .nodes) (subscription sh i)) _ (rw (was-read, doc-read, there)) (by-bytes i there)
+        decided (matchesAnswer s d i) (satisfies (dc .nodes) (subscription sh i)) _ (rw (was-read, doc-read, there)) (read-by-bytes s left sh was-read d rest dc doc-read i there)
 
     -- a number that doesn't exist is refused by 11
     pub matching-not-there : (i : ℕ) → isSubscription sh i ≡ false → matchesAnswer s d i ≡ asked.Refused notThere
@@ -273,41 +254,24 @@ module _ (s left : List ℕ) (sh : Sheet) (was-read : sheet s ≡ read sh left) 
   -- of a table that passes the check
   pub passing : (t : List ℕ) → tableNumber s t ≡ 0 → (w : Went (fairTable sh t)) × ((i : ℕ) → isSubscription sh i ≡ true → InJustOne (subscription sh i) (entriesOf i (w .value)))
   unfolding isSubscription subscription
-  passing t h = (w, λ i there. at i (ltb-true i (length (sh .patterns)) there))
-    where
-      w : Went (fairTable sh t)
-      w = table-of-0 s left sh was-read t h
-
-      at : (i : ℕ) → i < length (sh .patterns) → InJustOne (getD (sh .patterns) i none) (entriesOf i (w .value))
-      at i l =
-          let es = w .value in
-          let p = getD (sh .patterns) i none in
-          let stands : Stands i p es = rw zero-add at (each-gives 0 (sh .patterns) es (fair-gives (sh .patterns) es (fair-table-fair sh t (w .left) es (w .reads)) .each) i l) in
-          let one = only-one p (entriesOf i es) (stands-gives i p es stands) in
-          record { one = one .0; covered = λ e m. covers-is-laying (e .pattern) p .0 (one .1 e m) }
+  passing t h =
+      let w = table-of-0 s left sh was-read t h in
+      let fair = fair-table-fair sh t (w .left) (w .value) (w .reads) in (
+        w,
+        λ i there.
+            let just = fair-just-one (sh .patterns) (w .value) fair i (ltb-true i (length (sh .patterns)) there) in
+            record { one = just .0; covered = λ e m. covers-is-laying (e .pattern) (subscription sh i) .0 (just .1 e m) },
+      )
 
   -- a document that was read beside it
   module _ (d rest : List ℕ) (dc : Document) (doc-read : document sh d ≡ read dc rest) where
     -- bit i of the plain route is set exactly if there is a subscription i, and the document satisfies it
     pub delivered : (i : ℕ) → (isMember (plainRoute (dc .nodes) (sh .patterns)) i ≡ true) ↔ ((isSubscription sh i ≡ true) × Satisfied (labelsOf sh dc) (dc .nodes) (subscription sh i))
-    unfolding plainRoute isSubscription subscription
-    delivered i = (to, λ (there, m). said (ltb-true i (length ps) there) ∙ by-bytes s left sh was-read d rest dc doc-read i there .1 m)
-      where
-        ps : List Forest
-        ps = sh .patterns
-
-        bit : isMember (deliverySet (map (satisfies (dc .nodes)) ps)) i ≡ getD (map (satisfies (dc .nodes)) ps) i false
-        bit = member-delivery (map (satisfies (dc .nodes)) ps) i
-
-        said : i < length ps → isMember (deliverySet (map (satisfies (dc .nodes)) ps)) i ≡ satisfies (dc .nodes) (getD ps i none)
-        said l = bit ∙ getD-map (satisfies (dc .nodes)) ps i none false l
-
-        to : isMember (deliverySet (map (satisfies (dc .nodes)) ps)) i ≡ true → (ltb i (length ps) ≡ true) × Satisfied (labelsOf sh dc) (dc .nodes) (getD ps i none)
-        to h = go (true-or-false (ltb i (length ps)))
-          where
-            go : (ltb i (length ps) ≡ true) ⊎ (ltb i (length ps) ≡ false) → (ltb i (length ps) ≡ true) × Satisfied (labelsOf sh dc) (dc .nodes) (getD ps i none)
-            go (inl e) = (e, by-bytes s left sh was-read d rest dc doc-read i e .0 (sym (said (ltb-true i (length ps) e)) ∙ h))
-            go (inr e) = absurd (not-both false (sym (bit ∙ List·getD-eq-default (map (satisfies (dc .nodes)) ps) false (omega (arith, length-map ps (satisfies (dc .nodes)), ltb-false i (length ps) e))) ∙ h) refl)
+    unfolding isSubscription subscription
+    delivered i =
+        let bit = delivered-bit (dc .nodes) (sh .patterns) i in
+        let meant = read-by-bytes s left sh was-read d rest dc doc-read i in
+        (λ h. (bit .0 h .0, meant (bit .0 h .0) .0 (bit .0 h .1)), λ (there, m). bit .1 (there, meant there .1 m))
 
 -- both routes deliver one set: the plain route's, whose bits `delivered` explains; the tries are those of the definition
 pub record SameRoute (s t d : List ℕ) (sh : Sheet) (es : List Entry) (dc : Document) : Type 0 where
@@ -331,35 +295,9 @@ routing s t d sheet-sound table-sound document-sound =
 
 -- every table that is built, for every sound sheet and every limit, passes the check
 pub built-passes : (s left : List ℕ) (sh : Sheet) → sheet s ≡ read sh left → (limit : ℕ) → tableNumber s (tableBytes (build limit (sh .patterns) .entries)) ≡ 0
-built-passes = build-passes
-
--- what a build says that it writes passes the check
-writing-passes : (s : List ℕ) (limit rounds : ℕ) (bytes : List ℕ) → buildWriting s limit ≡ writes rounds bytes → tableNumber s bytes ≡ 0
-unfolding buildWriting judged
-writing-passes s limit rounds bytes h = go (sheet s) refl h
-  where
-    built : Sheet → Writing ℕ
-    built sh = writes (build limit (sh .patterns) .rounds) (tableBytes (build limit (sh .patterns) .entries))
-
-    go : (m : Reading Sheet) → sheet s ≡ m → judged m refuses built ≡ writes rounds bytes → tableNumber s bytes ≡ 0
-    go (read sh left) e k =
-        let same : tableBytes (build limit (sh .patterns) .entries) ≡ bytes = cc in
-        rw same at (build-passes s left sh e limit)
-    -- a refusal writes nothing
-    go (refused n) e k = let z : _≡_ {A = ℕ} 0 1 = cc in absurd (omega arith)
+built-passes = built.build-passes
 
 -- and so do the bytes that the call leaves in its output, as many as it says, whenever it is not refused
 pub output-passes : (s : List ℕ) (limit : ℕ) (out : List ℕ) → (let w = withRoom out (buildWriting s limit) in
     builtGiven (buildAnswer w) .refused ≡ false → tableNumber s (take (builtGiven (buildAnswer w) .values .length) (after out w)) ≡ 0)
-unfolding withRoom after buildAnswer builtGiven refusal gives pick
-output-passes s limit out = go (buildWriting s limit) refl
-  where
-    room : (rounds : ℕ) (bytes : List ℕ) → tableNumber s bytes ≡ 0 → (fits : Bool) → (let w = pick fits (writes rounds bytes) (refuses noRoom) in
-        builtGiven (buildAnswer w) .refused ≡ false → tableNumber s (take (builtGiven (buildAnswer w) .values .length) (after out w)) ≡ 0)
-    room rounds bytes p true h = rw (take-at bytes (drop (length bytes) out) (length bytes) refl) p
-    room rounds bytes p false h = absurd (true≢false h)
-
-    go : (w : Writing ℕ) → buildWriting s limit ≡ w → builtGiven (buildAnswer (withRoom out w)) .refused ≡ false
-        → tableNumber s (take (builtGiven (buildAnswer (withRoom out w)) .values .length) (after out (withRoom out w))) ≡ 0
-    go (refuses n) e h = absurd (true≢false h)
-    go (writes rounds bytes) e h = room rounds bytes (writing-passes s limit rounds bytes e) (leb (length bytes) (length out)) h
+output-passes = built.output-passes

@@ -1,23 +1,31 @@
--- The table route is the plain route, for any fair table and any document; and a table that passes the check is fair.
+-- The table route is the plain route, for any fair table and any document; a table that passes the check is fair; and what is
+-- delivered, bit by bit.
 use Prim.Native.Nat.{ℕ, suc}
 use mathlib.Core.Path.{_≡_, refl, sym, _∙_, ap, ap₂}
-use mathlib.Core.Bool.{Bool, true, _&&_, false≢true}
+use mathlib.Core.Logic.{_⊎_, inl, inr, _↔_}
+use mathlib.Core.Bool.{Bool, true, false, _&&_, false≢true}
+use native.Mathlib.Omega.{arith}
+use borrow.Author.Tests.{ltb-true, ltb-false}
+use lib.Dec.{ltb}
+use lib.ListN.{length, getD, length-map, List·getD-eq-default}
 use mathlib.Core.List.{List, [], _∷_, map, List·Memᴰ, List·Memᴰ·head}
-use Rattle.base.specs.Bools.{and-first, and-second, and-both, both-ways}
+use Rattle.base.specs.Bools.{and-first, and-second, and-both, both-ways, not-both, true-or-false}
 use Rattle.base.specs.Lists.{some}
 use Rattle.base.specs.ListLaws.{some-of, keep-gives}
 use Rattle.meaning.specs.Numbers.{notFair}
 use Rattle.meaning.specs.Reader.{read}
-use Rattle.meaning.specs.Forest.{Forest}
+use Rattle.base.specs.Mapping.{getD-map}
+use Rattle.meaning.specs.Forest.{Forest, none}
 use Rattle.meaning.specs.Sections.{Sheet, Node, Entry, table}
 use Rattle.meaning.specs.Satisfying.{satisfies, parentsOf}
 use Rattle.meaning.specs.Covering.{covers}
-use Rattle.meaning.specs.Fair.{hasMember, entriesOf, oneThatCovers, eachInOne, fair}
+use Rattle.meaning.specs.Fair.{isMember, hasMember, entriesOf, oneThatCovers, eachInOne, fair}
 use Rattle.meaning.specs.Routing.{deliverySet, plainRoute, matchesFor, deliveredFrom, tableRoute}
 use Rattle.meaning.specs.Calls.{fairTable}
 use Rattle.laws.specs.Rising.{Rising}
 use Rattle.laws.specs.Documents.{covering-loses-none}
 use Rattle.laws.specs.Readers.{give-read, bind-read, test-read}
+use Rattle.laws.specs.Members.{member-delivery}
 use Rattle.laws.specs.Standing.{fair-gives}
 
 -- the entry in which a subscription stands
@@ -62,3 +70,21 @@ fair-table-fair sh t left es h =
     let r = bind-read (table sh) _ t es left h in
     let judge = test-read notFair (fair (sh .patterns) (r .value)) _ (r .middle) (r .after) in
     ap (fair (sh .patterns)) (sym (give-read (r .value) (r .middle) (judge .1) .0)) ∙ judge .0
+
+-- bit i of the plain route is set exactly if there is a pattern i, and the document satisfies it
+pub delivered-bit : (ns : List Node) (ps : List Forest) (i : ℕ) → (isMember (plainRoute ns ps) i ≡ true) ↔ ((ltb i (length ps) ≡ true) × (satisfies ns (getD ps i none) ≡ true))
+unfolding plainRoute
+delivered-bit ns ps i = (λ h. to h (true-or-false (ltb i (length ps))), λ (there, h). said there ∙ h)
+  where
+    bit : isMember (deliverySet (map (satisfies ns) ps)) i ≡ getD (map (satisfies ns) ps) i false
+    bit = member-delivery (map (satisfies ns) ps) i
+
+    said : ltb i (length ps) ≡ true → isMember (deliverySet (map (satisfies ns) ps)) i ≡ satisfies ns (getD ps i none)
+    said there = bit ∙ getD-map (satisfies ns) ps i none false (ltb-true i (length ps) there)
+
+    past : ltb i (length ps) ≡ false → isMember (deliverySet (map (satisfies ns) ps)) i ≡ false
+    past e = bit ∙ List·getD-eq-default (map (satisfies ns) ps) false (omega (arith, length-map ps (satisfies ns), ltb-false i (length ps) e))
+
+    to : isMember (deliverySet (map (satisfies ns) ps)) i ≡ true → (ltb i (length ps) ≡ true) ⊎ (ltb i (length ps) ≡ false) → (ltb i (length ps) ≡ true) × (satisfies ns (getD ps i none) ≡ true)
+    to h (inl e) = (e, sym (said e) ∙ h)
+    to h (inr e) = absurd (not-both _ h (past e))

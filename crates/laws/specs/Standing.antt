@@ -5,6 +5,7 @@ use mathlib.Core.Path.{_≡_, refl, sym, _∙_, ap, subst}
 use mathlib.Core.Bool.{true, _&&_, false≢true}
 use mathlib.Core.List.{List, [], _∷_, List·Memᴰ, List·Memᴰ·head, List·Memᴰ·eq-of-singleton}
 use native.Mathlib.Omega.{arith}
+use native.Mathlib.Nat.{zero-add}
 use lib.ListN.{length, getD}
 use Rattle.base.specs.Bools.{and-first, and-second, and-both}
 use Rattle.base.specs.Choice.{pick}
@@ -26,7 +27,7 @@ pub record Stands (i : ℕ) (p : Forest) (es : List Entry) : Type 0 where
   pub covered : (e : Entry) → List·Memᴰ e es → hasMember i e ≡ true → covers (e .pattern) p ≡ true
 
 -- the test tells that there is one, and that it covers
-pub only-one : (p : Forest) (ks : List Entry) → oneThatCovers p ks ≡ true → (length ks ≡ 1) × ((e : Entry) → List·Memᴰ e ks → covers (e .pattern) p ≡ true)
+only-one : (p : Forest) (ks : List Entry) → oneThatCovers p ks ≡ true → (length ks ≡ 1) × ((e : Entry) → List·Memᴰ e ks → covers (e .pattern) p ≡ true)
 unfolding oneThatCovers
 only-one p [] h = absurd (false≢true h)
 only-one p (k ∷ []) h = (refl, λ e m. ap (λ (f : Entry). covers (f .pattern) p) (List·Memᴰ·eq-of-singleton m) ∙ h)
@@ -104,6 +105,13 @@ fair-gives ps es h =
       within = and-first (every (isWithin (length ps)) es) (eachInOne 0 ps es) rest;
       each = and-second (every (isWithin (length ps)) es) (eachInOne 0 ps es) rest;
     }
+
+-- so each subscription is in just one entry, and that entry covers it
+pub fair-just-one : (ps : List Forest) (es : List Entry) → fair ps es ≡ true → (i : ℕ) → i < length ps
+    → (length (entriesOf i es) ≡ 1) × ((e : Entry) → List·Memᴰ e (entriesOf i es) → covers (e .pattern) (getD ps i none) ≡ true)
+fair-just-one ps es h i l =
+    let stands : Stands i (getD ps i none) es = rw zero-add at (each-gives 0 ps es (fair-gives ps es h .each) i l) in
+    only-one (getD ps i none) (entriesOf i es) (stands-gives i (getD ps i none) es stands)
 
 -- and a table that has them is fair
 pub fair-of : (ps : List Forest) (es : List Entry) → Fairly ps es → fair ps es ≡ true
