@@ -163,6 +163,8 @@ numbers =
     -- the same label twice, judged when complete; bytes after the last section
     ∷ sheetNumber (2 ∷ 1 ∷ 65 ∷ 1 ∷ 65 ∷ [])
     ∷ sheetNumber (0 ∷ 0 ∷ 0 ∷ [])
+    -- one label in the sheet and 255 in the document
+    ∷ documentNumber (1 ∷ 1 ∷ 65 ∷ 0 ∷ []) (255 ∷ [])
     -- a document's node count of one byte, of 0; a label that stands in the sheet; label 0 of a node
     ∷ documentNumber (0 ∷ 0 ∷ []) (0 ∷ 0 ∷ [])
     ∷ documentNumber (0 ∷ 0 ∷ []) (0 ∷ 0 ∷ 0 ∷ [])
@@ -255,7 +257,7 @@ expected = record {
   covered = false ∷ true ∷ true ∷ false ∷ true ∷ false ∷ [];
   merges = expectedMerges;
   sizes = sized 16 false ∷ sized 12 false ∷ [];
-  numbers = 5 ∷ 5 ∷ 3 ∷ 3 ∷ 0 ∷ 0 ∷ 6 ∷ 9 ∷ 7 ∷ 8 ∷ 4 ∷ 2 ∷ 1 ∷ 5 ∷ 4 ∷ 8 ∷ 12 ∷ 2 ∷ 1 ∷ 11 ∷ 0 ∷ 11 ∷ [];
+  numbers = 5 ∷ 5 ∷ 3 ∷ 3 ∷ 0 ∷ 0 ∷ 6 ∷ 9 ∷ 7 ∷ 8 ∷ 4 ∷ 2 ∷ 5 ∷ 1 ∷ 5 ∷ 4 ∷ 8 ∷ 12 ∷ 2 ∷ 1 ∷ 11 ∷ 0 ∷ 11 ∷ [];
   rounds = 1 ∷ 1 ∷ 2 ∷ 2 ∷ 3 ∷ [];
   settled = 3 ∷ [];
   tries = 4;
