@@ -1,6 +1,8 @@
 -- `documents::nodes` meets its contract.
+use Prim.Native.Nat.{_<_}
 use Rattle.documents.specs.Judging.{nodesPlace}
 use Rattle.base.specs.Choice.{picks}
+use native.Mathlib.Omega.{arith}
 use borrow.Author.Needs.{needs}
 use Rattle.documents.proofs.nodes.Statement.{statement}
 use Rattle.documents.proofs.nodes.Tie as tie
@@ -25,7 +27,9 @@ returns-3 c = rw (← (c .before .pair-at .ensures .0)) (search picks depth 15)
 
 returns-4 : tie.Need-returns-4
 unfolding nodesPlace
-returns-4 c = rw (← (c .before .before .pair-at .ensures .0)) (search picks depth 15)
+returns-4 c =
+    let over : 1024 < c .before .before .pair-at .result = omega arith in
+    rw (← (c .before .before .pair-at .ensures .0)) (search picks depth 15)
 
 add-nodes-from : tie.Need-add-nodes-from
 add-nodes-from c = search needs

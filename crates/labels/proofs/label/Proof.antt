@@ -1,6 +1,8 @@
 -- `reading::labels::label` meets its contract.
+use Prim.Native.Nat.{_<_}
 use Rattle.base.specs.Choice.{picks}
 use Rattle.labels.specs.Judging.{labelPlace}
+use native.Mathlib.Omega.{arith}
 use borrow.Author.Needs.{needs}
 use Rattle.labels.proofs.label.Statement.{statement}
 use Rattle.labels.proofs.label.Tie as tie
@@ -18,7 +20,9 @@ returns-2 c = rw (← (c .before .byte-at .ensures .0)) (search picks depth 15)
 
 returns-3 : tie.Need-returns-3
 unfolding labelPlace
-returns-3 c = rw (← (c .before .before .byte-at .ensures .0)) (search picks depth 15)
+returns-3 c =
+    let over : 60 < c .before .before .byte-at .result = omega arith in
+    rw (← (c .before .before .byte-at .ensures .0)) (search picks depth 15)
 
 add-if4 : tie.Need-add-if4
 add-if4 c = search needs

@@ -1,7 +1,9 @@
 -- `tables::table` meets its contract.
+use Prim.Native.Nat.{_<_}
 use Rattle.base.specs.Loops.{andThen}
 use Rattle.tables.specs.Judging.{tablePlace}
 use Rattle.base.specs.Choice.{picks}
+use native.Mathlib.Omega.{arith}
 use borrow.Author.Needs.{needs}
 use Rattle.tables.proofs.table.Statement.{statement}
 use Rattle.tables.proofs.table.Tie as tie
@@ -15,7 +17,9 @@ byte-at-requires c κs = search needs
 
 returns-2 : tie.Need-returns-2
 unfolding tablePlace
-returns-2 c = rw (← (c .before .byte-at .ensures .0)) (search picks depth 15)
+returns-2 c =
+    let over : 64 < c .before .byte-at .result = omega arith in
+    rw (← (c .before .byte-at .ensures .0)) (search picks depth 15)
 
 entries-from-requires : tie.Need-entries-from-requires
 entries-from-requires c κs = search needs

@@ -1,6 +1,8 @@
 -- `reading::patterns::pattern` meets its contract.
+use Prim.Native.Nat.{_<_}
 use Rattle.base.specs.Choice.{picks}
 use Rattle.reading.specs.Judging.{patternPlace}
+use native.Mathlib.Omega.{arith}
 use borrow.Author.Needs.{needs}
 use Rattle.reading.proofs.patterns.pattern.Statement.{statement}
 use Rattle.reading.proofs.patterns.pattern.Tie as tie
@@ -14,7 +16,9 @@ byte-at-requires c κs = search needs
 
 returns-2 : tie.Need-returns-2
 unfolding patternPlace
-returns-2 c = rw (← (c .before .byte-at .ensures .0)) (search picks depth 15)
+returns-2 c =
+    let over : 16 < c .before .byte-at .result = omega arith in
+    rw (← (c .before .byte-at .ensures .0)) (search picks depth 15)
 
 add-steps : tie.Need-add-steps
 add-steps c = search needs
