@@ -1,12 +1,11 @@
 -- A table by value with one entry more behind its entries; one entry for each of the first subscriptions.
-use Prim.Native.Nat.{ℕ, suc, _+_, _*_, _%_, _^_, _≤_, _<_}
+use Prim.Native.Nat.{ℕ, suc, _+_, _^_, _≤_, _<_}
 use mathlib.Core.Path.{_≡_, sym, ap, ap₂, _∙_}
 use mathlib.Core.Logic.{_⊎_, inl, inr, ⊎-elim}
 use mathlib.Core.List.{List, [], _∷_, _++_, map, map-append, List·Memᴰ, List·Memᴰ·head, List·Memᴰ·tail, List·Memᴰ·not-nil}
 use native.Mathlib.Omega.{arith}
 use native.Mathlib.Numerals.{add-one}
 use lib.ListN.{length, getD, set, take, length-set}
-use lib.Pow.{shl-exact}
 use lib.Seq.{take-suc, take-suc-set, take-all, length-take-le}
 use Rattle.meaning.specs.Forest.{Forest, none}
 use Rattle.meaning.specs.Sections
@@ -69,11 +68,10 @@ module _ (ps : List Forest) where
       none-there f m = absurd (List·Memᴰ·not-nil (rw e at m))
 
   -- and one more
-  pub first-more : (i : ℕ) (t u : Table) (e : Entry) → i < length ps → i < 64 → FirstOnes i t → tableOf u ≡ tableOf t ++ (entryOf e ∷ []) → u .count ≡ t .count + 1 → SoundTable u
-      → e .members ≡ (1 * 2 ^ i) % 2 ^ 64 → patternOf (e .pattern) ≡ getD ps i none → FirstOnes (i + 1) u
+  pub first-more : (i : ℕ) (t u : Table) (e : Entry) → i < length ps → FirstOnes i t → tableOf u ≡ tableOf t ++ (entryOf e ∷ []) → u .count ≡ t .count + 1 → SoundTable u
+      → e .members ≡ 2 ^ i → patternOf (e .pattern) ≡ getD ps i none → FirstOnes (i + 1) u
   unfolding entryOf
-  first-more i t u e h few z grew counted sound bit is =
-      let one : e .members ≡ 2 ^ i = bit ∙ shl-exact 1 i 64 (omega arith) (omega arith) ∙ omega arith in
+  first-more i t u e h z grew counted sound one is =
       let long : length (take i ps) ≡ i = length-take-le i ps (omega arith) in
       let which : entryOf e ≡ record { members = 2 ^ (0 + length (take i ps)); pattern = getD ps i none } =
       ap₂ (λ (n : ℕ) (p : Forest). record { members = n; pattern = p }) (one ∙ ap (λ (n : ℕ). 2 ^ n) (omega arith)) is in

@@ -2,6 +2,7 @@
 use crate::subscribed::numbered;
 use building::build;
 use meaning::Built;
+use members::alone;
 use patterns::Subscriptions;
 use patterns::subscriptions_in;
 use shapes::Entry;
@@ -51,7 +52,7 @@ pub fn first_entries(s: &[u8], v: Subscriptions) -> Table
         t = with_entry(
             t,
             Entry {
-                members: 1 << i,
+                members: alone(i),
                 pattern: p,
             },
         );

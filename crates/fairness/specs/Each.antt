@@ -1,45 +1,21 @@
 -- A fair table: every entry peopled from within the sheet, and each subscription in exactly one entry that covers it; asked one after the other.
-use Prim.Native.Nat.{ℕ, _+_, _*_, _%_, _^_, _≤_, _<_}
+use Prim.Native.Nat.{ℕ, _+_, _^_, _≤_, _<_}
 use mathlib.Core.Path.{_≡_, refl, sym, ap, _∙_}
 use mathlib.Core.Bool.{Bool, true, false, _&&_, and-assoc}
 use mathlib.Core.List.{List, [], _∷_}
 use native.Mathlib.Numerals.{add-one}
-use native.Mathlib.Omega.{arith}
-use borrow.Author.Tests.{lt-ltb}
 use lib.Dec.{ltb}
-use lib.Pow.{shl-exact}
 use lib.ListN.{length, getD, drop, drop-of-length-le}
 use lib.Seq.{drop-cons}
-use Rattle.base.specs.Bools.{and-both}
 use Rattle.base.specs.Lists.{every}
 use Rattle.meaning.specs.Forest.{Forest, none}
 use Rattle.meaning.specs.Sections.{Entry}
 use Rattle.shapes.specs.Shapes.{entryOf}
 use Rattle.shapes.specs.declared.Entry as shapes
+use Rattle.members.specs.Fitting.{membersFit}
 use Rattle.meaning.specs.Fair.{entriesOf, oneThatCovers, eachInOne, isPeopled, isWithin, fair}
 
--- members that are there, and within the sheet, of n subscriptions
-unfoldable pub membersFit : ℕ → ℕ → Bool
-membersFit n members = ltb 0 members && ltb members (2 ^ n)
-
--- none of them
-pub fit-none : (n members : ℕ) → members ≡ 0 → false ≡ membersFit n members
-unfolding membersFit
-fit-none n members h = rw h
-
--- 64 subscriptions, all bits within
-pub fit-all : (n members : ℕ) → n ≡ 64 → 0 < members → members < 2 ^ 64 → true ≡ membersFit n members
-unfolding membersFit
-fit-all n members e h k = rw e (sym (and-both (ltb 0 members) (ltb members (2 ^ 64)) (lt-ltb 0 members h) (lt-ltb members (2 ^ 64) k)))
-
--- fewer, as the machine compares
-pub fit-shifted : (n members : ℕ) → n < 64 → 0 < members → ltb members ((1 * 2 ^ n) % 2 ^ 64) ≡ membersFit n members
-unfolding membersFit
-fit-shifted n members l h =
-    let one : (1 * 2 ^ n) % 2 ^ 64 ≡ 2 ^ n = shl-exact 1 n 64 (omega arith) (omega arith) ∙ omega arith in
-    rw (one, lt-ltb 0 members h)
-
--- so of an entry
+-- an entry with members, and all within the sheet, of n subscriptions
 unfoldable pub isFit : ℕ → Entry → Bool
 isFit n e = membersFit n (e .members)
 

@@ -1,6 +1,8 @@
 // The table check: whether a table is fair beside its sheet.
 use base::Cur;
 use covering::covers;
+use members::is_member;
+use members::members_fit;
 use patterns::Subscriptions;
 use patterns::pattern_at;
 use patterns::subscriptions_in;
@@ -13,7 +15,7 @@ use tables::members_at;
 ghost use Prim.Native.Nat.{_≤_, _<_};
 ghost use mathlib.Core.Path.{_≡_};
 ghost use Rattle.base.specs.Lists.{every};
-ghost use Rattle.meaning.specs.Fair.{isMember, entriesOf, oneThatCovers, eachInOne};
+ghost use Rattle.meaning.specs.Fair.{entriesOf, oneThatCovers, eachInOne};
 ghost use Rattle.meaning.specs.Calls.{tableNumber};
 ghost use Rattle.shapes.specs.Shapes.{patternOf, entryOf, SoundPattern};
 ghost use Rattle.reading.specs.Places.{sheetAt};
@@ -22,30 +24,8 @@ ghost use Rattle.tables.specs.Judging.{entryAt};
 ghost use Rattle.tables.specs.Standing.{tableAt, EntriesStand};
 ghost use Rattle.fairness.specs.Members.{MembersStand};
 ghost use Rattle.fairness.specs.Weighing.{weighed};
-ghost use Rattle.fairness.specs.Each.{membersFit, isFit};
+ghost use Rattle.fairness.specs.Each.{isFit};
 ghost use Rattle.fairness.specs.Judged.{fairAt, fairPlace};
-
-// Is subscription i a member?
-pub fn is_member(members: u64, i: usize) -> bool
-    requires { ⌜ i < 64 ⌝ }
-    ensures { λ r. ⌜ r ≡ isMember members i ⌝ }
-{
-    (members >> i) % 2 == 1
-}
-
-// Are there members, and all within the sheet, of n subscriptions?
-fn members_fit(members: u64, n: usize) -> bool
-    requires { ⌜ n ≤ 64 ⌝ }
-    ensures { λ r. ⌜ r ≡ membersFit n members ⌝ }
-{
-    if members == 0 {
-        return false;
-    }
-    if n == 64 {
-        return true;
-    }
-    members < (1 << n)
-}
 
 // No entry is without members, and no member is outside the sheet, of n subscriptions.
 fn all_fit(t: &[u8], entries: Entries, n: usize) -> bool

@@ -93,12 +93,12 @@ pub fn label_bytes<'a>(s: &'a [u8], d: &'a [u8], n: u64) -> &'a [u8]
 pub fn sheds(set: u64) -> u32
     ensures { λ r. ⌜ ShedsGives set r ⌝ }
 {
-    sheds::sheds(set)
+    members::sheds(set)
 }
 
 // The lowest shed, 64 when there is none.
 pub fn lowest_shed(set: u64) -> u32
     ensures { λ r. ⌜ LowestShedGives set r ⌝ }
 {
-    sheds::lowest_shed(set)
+    members::lowest_shed(set)
 }

@@ -1,4 +1,3 @@
-pub mod Marks
 pub mod Judged
 pub mod Plain
 pub mod Tabling

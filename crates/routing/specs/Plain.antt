@@ -18,7 +18,7 @@ use Rattle.meaning.specs.Routing.{deliverySet, plainRoute}
 use Rattle.meaning.specs.Calls.{isSubscription, subscription}
 use Rattle.meaning.specs.declared.Asked.{Asked}
 use Rattle.meaning.specs.declared.Asked.the-variants as asked
-use Rattle.routing.specs.Marks.{marked, delivery-last}
+use Rattle.members.specs.Marks.{marked, delivery-last}
 
 module _ (ns : List Node) (ps : List Forest) where
   -- the delivery set of the first i subscriptions

@@ -22,7 +22,7 @@ use Rattle.meaning.specs.Fair.{isMember, hasMember}
 use Rattle.meaning.specs.Routing.{matchesFor, deliveredFrom, tableRoute}
 use Rattle.laws.specs.Members.{member-none, member-delivery, delivery-lt}
 use Rattle.routing.specs.declared.Route.{Route}
-use Rattle.routing.specs.Marks.{marked, member-marked, marked-lt, same-members}
+use Rattle.members.specs.Marks.{marked, member-marked, marked-lt, same-members}
 use Rattle.routing.specs.Tabling.{start, oneMore, memberTried, askMember, askMembers, askEntry, routeBy}
 
 module _ (ns : List Node) (ps : List Forest) where

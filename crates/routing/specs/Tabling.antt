@@ -17,7 +17,7 @@ use Rattle.meaning.specs.Satisfying.{satisfies}
 use Rattle.meaning.specs.Fair.{isMember}
 use Rattle.meaning.specs.Routing.{membersOf, triedFor, tried}
 use Rattle.routing.specs.declared.Route.{Route}
-use Rattle.routing.specs.Marks.{marked}
+use Rattle.members.specs.Marks.{marked}
 
 -- nothing is tried yet
 unfoldable pub start : Route

@@ -5,12 +5,13 @@ use documents::document;
 use documents::node_count;
 use documents::node_place;
 use fairness::fair_table;
-use fairness::is_member;
 use matching::matches;
 use matching::try_pattern;
 use meaning::Asked;
 use meaning::Routed;
 use meaning::Tabled;
+use members::is_member;
+use members::mark;
 use patterns::Subscriptions;
 use patterns::pattern_at;
 use patterns::subscriptions_in;
@@ -31,7 +32,6 @@ ghost use Rattle.patterns.specs.Subscribed.{SubscriptionsStand};
 ghost use Rattle.tables.specs.Standing.{tableAt, EntriesStand};
 ghost use Rattle.reading.specs.Judged.{SheetStands};
 ghost use Rattle.routing.specs.Judged.{NodesStand};
-ghost use Rattle.routing.specs.Marks.{marked};
 ghost use Rattle.routing.specs.Plain.{numberedAnswer};
 ghost use Rattle.routing.specs.Tabling.{memberTried, askMembers, askEntry, routeBy};
 
@@ -39,17 +39,6 @@ ghost use Rattle.routing.specs.Tabling.{memberTried, askMembers, askEntr
 struct Route {
     set: u64,
     tried: usize,
-}
-
-// The set, with subscription i in it where the answer is yes.
-fn mark(set: u64, i: usize, said: bool) -> u64
-    requires { ⌜ i < 64 ⌝ }
-    ensures { λ r. ⌜ r ≡ marked set i said ⌝ }
-{
-    if said {
-        return set | (1 << i);
-    }
-    set
 }
 
 // Does the document whose n nodes stand from a place on satisfy the pattern at x of the sheet?

@@ -12,12 +12,9 @@ use Rattle.shapes.specs.declared.Entry.{Entry}
 use Rattle.shapes.specs.declared.Table.{Table}
 use Rattle.settling.specs.Placing.{put, put-table}
 
--- the pattern with the members of entries i and j
-abbrev pub both : Table → Pattern → ℕ → ℕ → Entry
-both t p i j = record { members = bitOr (getD (t .entries) i noEntry .members) (getD (t .entries) j noEntry .members); pattern = p }
-
 module _ (t : Table) (s : SoundTable t) (p : Pattern) (i j : ℕ) (hi : i < t .count) (hj : j < t .count) where
-  -- without j it is what joining gives
-  pub both-joined : without j (tableOf (put t s i (both t p i j) hi)) ≡ joinAt (patternOf p) (pair i j) (tableOf t)
+  -- the pattern with the members of both stands at i: without j it is what joining gives
+  pub both-joined : (e : Entry) → e .members ≡ bitOr (getD (t .entries) i noEntry .members) (getD (t .entries) j noEntry .members) → e .pattern ≡ p
+      → without j (tableOf (put t s i e hi)) ≡ joinAt (patternOf p) (pair i j) (tableOf t)
   unfolding joinAt pair entryOf
-  both-joined = ap (without j) (put-table t s i (both t p i j) hi ∙ rw (entry-at t s i noEntry hi, entry-at t s j noEntry hj))
+  both-joined e m q = ap (without j) (put-table t s i e hi ∙ rw (m, q, entry-at t s i noEntry hi, entry-at t s j noEntry hj))

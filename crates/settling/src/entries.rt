@@ -1,4 +1,5 @@
 // Entries of a table: two are joined, one is removed.
+use members::union;
 use shapes::Entry;
 use shapes::Pattern;
 use shapes::Table;
@@ -34,7 +35,7 @@ pub fn join_at(t: Table, p: Pattern, i: usize, j: usize) -> Table
     let b = t.entries[j];
     let mut u = t;
     u.entries[i] = Entry {
-        members: a.members | b.members,
+        members: union(a.members, b.members),
         pattern: p,
     };
     remove(u, j)

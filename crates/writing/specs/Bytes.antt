@@ -1,38 +1,20 @@
--- The bytes of a pattern, of members and of a table, as the loops that write them go.
-use Prim.Native.Nat.{ℕ, zero, suc, _+_, _*_, _-_, _/_, _%_, _≤_, _<_}
+-- The bytes of a pattern and of a table, as the loops that write them go.
+use Prim.Native.Nat.{ℕ, _+_, _*_, _<_}
 use mathlib.Core.Path.{_≡_, refl, sym, ap, _∙_}
-use mathlib.Core.List.{List, [], _∷_, _++_, flatMap}
+use mathlib.Core.List.{List, [], _∷_, flatMap}
 use native.Mathlib.Omega.{arith}
 use lib.ListN.{length, getD, length-append}
 use lib.Seq.{sets}
-use Rattle.base.specs.Loops.{split, none-left}
 use Rattle.base.specs.Storing.{sets-append, partsFrom, parts-go-on, flatMap-map}
 use Rattle.meaning.specs.Written.{stepBytes, patternBytes, numberBytes, entryBytes, tableBytes}
 use Rattle.meaning.specs.declared.Step.{Step}
+use Rattle.members.specs.Bytes.{length-numberBytes}
 use Rattle.shapes.specs.Shapes.{stepsIn, patternOf, entryOf, entriesIn, tableOf, SoundPattern, SoundTable}
 use Rattle.shapes.specs.Steps.{length-steps, count-size}
 use Rattle.shapes.specs.Tables.{entries-fit, length-table}
 use Rattle.shapes.specs.declared.Pattern.{Pattern}
 use Rattle.shapes.specs.declared.Entry.{Entry}
 use Rattle.shapes.specs.declared.Table.{Table}
-
--- ---- members
-
--- as many bytes as are asked for
-pub length-numberBytes : (n x : ℕ) → length (numberBytes n x) ≡ n
-unfolding numberBytes
-length-numberBytes zero x = refl
-length-numberBytes (suc n) x = ap suc (length-numberBytes n (x / 256))
-
--- the low byte, and then the bytes of the rest
-pub number-goes-on : (n k x : ℕ) → k < n → numberBytes (n - k) x ≡ (x % 256 ∷ []) ++ numberBytes (n - (k + 1)) (x / 256)
-unfolding numberBytes
-number-goes-on n k x h = rw (split n k h)
-
--- no byte is left
-pub number-end : (n k x : ℕ) → n ≤ k → numberBytes (n - k) x ≡ []
-unfolding numberBytes
-number-end n k x h = rw (none-left n k h)
 
 -- ---- patterns
 

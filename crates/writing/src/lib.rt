@@ -1,5 +1,6 @@
 // Writing a pattern and a table into a lent output.
 use meaning::Step;
+use members::put_members;
 use shapes::Entry;
 use shapes::Pattern;
 use shapes::Table;
@@ -8,7 +9,7 @@ ghost use mathlib.Core.Path.{_≡_};
 ghost use lib.Dec.{leb};
 ghost use lib.ListN.{length};
 ghost use lib.Seq.{sets};
-ghost use Rattle.meaning.specs.Written.{stepBytes, patternBytes, numberBytes, tableBytes};
+ghost use Rattle.meaning.specs.Written.{stepBytes, patternBytes, tableBytes};
 ghost use Rattle.shapes.specs.Shapes.{patternOf, tableOf, SoundPattern, SoundTable};
 ghost use Rattle.writing.specs.Bytes.{bytesOf};
 ghost use Rattle.writing.specs.Output.{writtenOver};
@@ -29,20 +30,6 @@ fn put_step(out: &mut [u8], at: usize, s: Step)
     out[at] = s.parent;
     out[at + 1] = s.axis;
     out[at + 2] = s.label;
-}
-
-// Eight bytes of members, the low byte first, from a place on.
-fn put_members(out: &mut [u8], at: usize, members: u64)
-    requires { ⌜ at + 8 ≤ length (now out) ⌝ }
-    ensures { λ r. ⌜ now (out .exit) ≡ sets (now (out .entry)) at (numberBytes 8 members) ⌝ }
-{
-    let mut left = members;
-    let mut k = 0;
-    while k < 8 {
-        out[at + k] = (left % 256) as u8;
-        left = left / 256;
-        k += 1;
-    }
 }
 
 // A step count and the steps, from a place on; the place behind them.

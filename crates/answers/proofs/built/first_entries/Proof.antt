@@ -26,16 +26,14 @@ numbered-requires c κs =
     let start = c .before .before .before .before .before in
     (start .pre, omega arith)
 
-shl-t11 : tie.Need-shl-t11 Inv-loop μ-loop
-shl-t11 c =
-    let start = c .before .before .before .before .before .before in
-    omega (arith, start .pre .few)
+alone-requires : tie.Need-alone-requires Inv-loop μ-loop
+alone-requires c κs = omega (arith, c .before .before .before .before .before .before .pre .few)
 
 with-entry-requires : tie.Need-with-entry-requires Inv-loop μ-loop
 with-entry-requires c κs =
-    let l = c .before .before .before in
+    let l = c .before .before .before .before in
     let start = l .before .before .before in
-    (l .loop .inv .sound, omega (arith, start .pre .few, l .loop .inv .counted), c .numbered .ensures .1)
+    (l .loop .inv .sound, omega (arith, start .pre .few, l .loop .inv .counted), c .before .numbered .ensures .1)
 
 add-i : tie.Need-add-i Inv-loop μ-loop
 add-i c = search needs
@@ -46,11 +44,11 @@ loop-less c = omega arith
 loop-again : tie.Need-loop-again Inv-loop μ-loop
 unfolding subscription
 loop-again c =
-    let l = c .before .before .before .before in
+    let l = c .before .before .before .before .before in
     let start = l .before .before .before in
     let w = c .with-entry in
-    first-more _ (l .loop .i) (l .loop .t) (w .result) _ (omega (arith, start .pre .counted)) (omega (arith, start .pre .few)) (l .loop .inv)
-    (w .ensures .0) (w .ensures .1) (w .ensures .2) refl (c .before .numbered .ensures .0)
+    first-more _ (l .loop .i) (l .loop .t) (w .result) _ (omega (arith, start .pre .counted)) (l .loop .inv)
+    (w .ensures .0) (w .ensures .1) (w .ensures .2) (c .before .alone .ensures) (c .before .before .numbered .ensures .0)
 
 returns : tie.Need-returns Inv-loop μ-loop
 returns c =
@@ -67,7 +65,7 @@ first-entries-spec =
     no-steps-requires
     loop-holds
     numbered-requires
-    shl-t11
+    alone-requires
     with-entry-requires
     add-i
     loop-less

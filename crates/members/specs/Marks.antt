@@ -8,8 +8,8 @@ use native.Mathlib.Nat.{pow-suc}
 use lib.Bits.{bitOr, or-lt, or-shifted-r}
 use lib.Dec.{eqb}
 use lib.ListN.{length}
-use lib.Pow.{pow-lt, shl-exact}
-use Rattle.base.specs.Choice.{pick, pick-true, pick-false}
+use lib.Pow.{pow-lt}
+use Rattle.base.specs.Choice.{pick}
 use Rattle.meaning.specs.Fair.{isMember}
 use Rattle.meaning.specs.Routing.{deliverySet}
 use Rattle.laws.specs.Members.{member-first, member-next, member-or, member-alone, delivery-lt}
@@ -17,18 +17,6 @@ use Rattle.laws.specs.Members.{member-first, member-next, member-or, member-alo
 -- the set with subscription i in it where the answer is yes
 unfoldable pub marked : ℕ → ℕ → Bool → ℕ
 marked set i said = pick said (bitOr set (2 ^ i)) set
-
--- as the machine marks it
-pub mark-set : (set i : ℕ) (said : Bool) → i < 64 → said ≡ true → bitOr set ((1 * 2 ^ i) % 2 ^ 64) ≡ marked set i said
-unfolding marked
-mark-set set i said h e =
-    let one : (1 * 2 ^ i) % 2 ^ 64 ≡ 2 ^ i = shl-exact 1 i 64 (omega arith) (omega arith) ∙ omega arith in
-    pick-true _ _ _ said e (ap (bitOr set) one)
-
--- and as it leaves it
-pub mark-left : (set i : ℕ) (said : Bool) → said ≡ false → set ≡ marked set i said
-unfolding marked
-mark-left set i said e = pick-false _ _ _ said e refl
 
 -- its members: those before, and i where the answer is yes
 pub member-marked : (set i : ℕ) (said : Bool) (j : ℕ) → isMember (marked set i said) j ≡ (isMember set j || (said && eqb i j))

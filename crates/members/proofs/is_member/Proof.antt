@@ -1,9 +1,9 @@
--- `fairness::is_member` meets its contract: the bit of subscription i.
+-- `members::is_member` meets its contract: the bit of subscription i.
 use mathlib.Core.Path.{refl}
 use borrow.Author.Needs.{needs}
 use Rattle.meaning.specs.Fair.{isMember}
-use Rattle.fairness.proofs.is_member.Statement.{statement}
-use Rattle.fairness.proofs.is_member.Tie as tie
+use Rattle.members.proofs.is_member.Statement.{statement}
+use Rattle.members.proofs.is_member.Tie as tie
 
 shr-result : tie.Need-shr-result
 shr-result c = search needs

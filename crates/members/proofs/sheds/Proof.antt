@@ -1,8 +1,8 @@
--- `sheds::sheds` meets its contract: the number of ones.
+-- `members::sheds` meets its contract: the number of ones.
 use mathlib.Core.Path.{refl}
 use Rattle.meaning.specs.Routing.{shedsIn}
-use Rattle.sheds.proofs.sheds.Statement.{statement}
-use Rattle.sheds.proofs.sheds.Tie as tie
+use Rattle.members.proofs.sheds.Statement.{statement}
+use Rattle.members.proofs.sheds.Tie as tie
 
 returns : tie.Need-returns
 unfolding shedsIn

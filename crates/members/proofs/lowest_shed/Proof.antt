@@ -1,8 +1,8 @@
--- `sheds::lowest_shed` meets its contract: the trailing zeros.
+-- `members::lowest_shed` meets its contract: the trailing zeros.
 use mathlib.Core.Path.{refl}
 use Rattle.meaning.specs.Routing.{lowestShed}
-use Rattle.sheds.proofs.lowest_shed.Statement.{statement}
-use Rattle.sheds.proofs.lowest_shed.Tie as tie
+use Rattle.members.proofs.lowest_shed.Statement.{statement}
+use Rattle.members.proofs.lowest_shed.Tie as tie
 
 returns : tie.Need-returns
 unfolding lowestShed

@@ -1,4 +1,4 @@
--- `writing::put_members` meets its contract. In turn k the bytes from the k-th on are left to store.
+-- `members::put_members` meets its contract. In turn k the bytes from the k-th on are left to store.
 use Prim.Native.Nat.{_+_, _-_, _%_, _≤_}
 use native.Mathlib.Omega.{arith}
 use borrow.Author.Needs.{needs}
@@ -7,9 +7,9 @@ use mathlib.Core.List.{[], _∷_}
 use lib.Seq.{sets, length-sets}
 use Rattle.base.specs.Storing.{Left, left-first, left-goes-on, left-none, left-same}
 use Rattle.meaning.specs.Written.{numberBytes}
-use Rattle.writing.specs.Bytes.{length-numberBytes, number-goes-on, number-end}
-use Rattle.writing.proofs.put_members.Statement.{statement}
-use Rattle.writing.proofs.put_members.Tie as tie
+use Rattle.members.specs.Bytes.{length-numberBytes, number-goes-on, number-end}
+use Rattle.members.proofs.put_members.Statement.{statement}
+use Rattle.members.proofs.put_members.Tie as tie
 
 abbrev Inv-loop : tie.InvT-loop
 Inv-loop out₀ at members left₀ k₀ out left k = (k ≤ 8) × Left (sets out₀ at (numberBytes 8 left₀)) (at + 8) out (at + k) (numberBytes (8 - k) left)
