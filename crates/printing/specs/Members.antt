@@ -1,13 +1,10 @@
 -- The members of an entry with a comma between them, as a loop goes through the subscriptions.
-use Prim.Native.Nat.{ℕ, _+_, _-_, _/_, _%_, _^_, _≤_, _<_}
+use Prim.Native.Nat.{ℕ, _+_, _-_, _≤_, _<_}
 use mathlib.Core.Path.{_≡_, refl, sym, ap, _∙_}
 use mathlib.Core.Bool.{Bool, true, false}
 use mathlib.Core.List.{List, [], _∷_, _++_, append-nil}
 use native.Mathlib.Omega.{arith}
-use native.Mathlib.Nat.{pow-suc, div-div-eq-div-mul}
 use native.Mathlib.Numerals.{add-one}
-use borrow.Author.Tests.{eq-eqb, ne-eqb}
-use lib.Dec.{eqb}
 use Rattle.base.specs.Choice.{pick}
 use Rattle.base.specs.Lists.{keep, numbersFrom}
 use Rattle.base.specs.Loops.{split, none-left}
@@ -43,30 +40,18 @@ members-text n members =
     let all : n ≡ n - 0 = omega arith in
     numbers-text (keep (isMember members) (numbersFrom 0 n)) ∙ ap (λ (k : ℕ). numbersText false (keep (isMember members) (numbersFrom 0 k))) all
 
--- the bits from number i on, and from the next
-pub bits-first : (members : ℕ) → members ≡ members / 2 ^ 0
-bits-first members = omega arith
-
-pub bits-next : (members i left : ℕ) → left ≡ members / 2 ^ i → left / 2 ≡ members / 2 ^ (i + 1)
-bits-next members i left e =
-    ap (λ (n : ℕ). n / 2) e ∙ div-div-eq-div-mul members (2 ^ i) 2 ∙ ap (λ (n : ℕ). members / n) (sym (rw add-one (pow-suc 2 i)))
-
-module _ (members n i left : ℕ) (e : left ≡ members / 2 ^ i) (h : i < n) where
+module _ (members n i : ℕ) (h : i < n) (started said : Bool) (asked : said ≡ isMember members i) where
   -- subscription i is a member
-  pub member-here : (started : Bool) → left % 2 ≡ 1
+  pub member-here : said ≡ true
       → numbersText started (membersFrom members i (n - i)) ≡ byteIf started 44 ++ (decimal i ++ numbersText true (membersFrom members (i + 1) (n - (i + 1))))
-  unfolding numbersText membersFrom keep numbersFrom isMember pick
-  member-here started b =
-      let bit : eqb (members / 2 ^ i % 2) 1 ≡ true = eq-eqb (members / 2 ^ i % 2) 1 (ap (λ (x : ℕ). x % 2) (sym e) ∙ b) in
-      rw (split n i h, bit, add-one)
+  unfolding numbersText membersFrom keep numbersFrom pick
+  member-here e = rw (split n i h, sym asked ∙ e, add-one)
 
   -- it is none
-  pub member-not : (started : Bool) → (left % 2 ≡ 1 → ⊥)
+  pub member-not : said ≡ false
       → numbersText started (membersFrom members i (n - i)) ≡ numbersText started (membersFrom members (i + 1) (n - (i + 1)))
-  unfolding membersFrom keep numbersFrom isMember pick
-  member-not started b =
-      let bit : eqb (members / 2 ^ i % 2) 1 ≡ false = ne-eqb (members / 2 ^ i % 2) 1 (λ z. b (ap (λ (x : ℕ). x % 2) e ∙ z)) in
-      rw (split n i h, bit, add-one)
+  unfolding membersFrom keep numbersFrom pick
+  member-not e = rw (split n i h, sym asked ∙ e, add-one)
 
 -- none is left
 pub members-end : (members n i : ℕ) (started : Bool) → n ≤ i → numbersText started (membersFrom members i (n - i)) ≡ []

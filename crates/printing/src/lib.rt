@@ -1,4 +1,5 @@
 // A table's text: first the totals, then a line for each entry: members ascending, pattern, labels as their bytes.
+use members::is_member;
 use pattern_text::put_pattern;
 use shapes::Entry;
 use shapes::Table;
@@ -7,6 +8,7 @@ use texts::put_bytes;
 use texts::put_counted;
 use texts::put_decimal;
 use texts::put_if;
+ghost use Prim.Native.Nat.{_≤_};
 ghost use mathlib.Core.Path.{_≡_};
 ghost use Rattle.meaning.specs.Routing.{membersOf};
 ghost use Rattle.meaning.specs.Printing.{commaText, entryText};
@@ -16,19 +18,17 @@ ghost use Rattle.pattern_text.specs.StepTexts.{labelsIn};
 ghost use Rattle.printing.specs.Tables.{totalsOf, builtTable, textOf};
 
 // The members of an entry, of n subscriptions, ascending, with a comma between them; the next place.
-pub fn put_members(out: &mut [u8], at: usize, members: u64, n: usize) -> usize
+fn put_members(out: &mut [u8], at: usize, members: u64, n: usize) -> usize
+    requires { ⌜ n ≤ 64 ⌝ }
     ensures { λ r. ⌜ written (now (out .exit)) r ≡ put (written (now (out .entry)) at) (commaText (membersOf n members)) ⌝ }
 {
     let mut next = at;
     let mut started = false;
-    let mut left = members;
     let mut i = 0;
     while i < n {
         let k = i;
-        let bit = left % 2;
         i += 1;
-        left = left / 2;
-        if bit == 1 {
+        if is_member(members, k) {
             next = put_if(out, next, started, 44);
             next = put_decimal(out, next, k);
             started = true;
@@ -55,8 +55,8 @@ fn put_totals(
 }
 
 // A line for an entry, beside a sheet s of so many subscriptions; the next place.
-pub fn put_entry(out: &mut [u8], at: usize, s: &[u8], e: Entry, subscriptions: usize) -> usize
-    requires { ⌜ SoundPattern (e .pattern) ⌝ }
+fn put_entry(out: &mut [u8], at: usize, s: &[u8], e: Entry, subscriptions: usize) -> usize
+    requires { ⌜ SoundPattern (e .pattern) × (subscriptions ≤ 64) ⌝ }
     ensures { λ r. ⌜ written (now (out .exit)) r ≡ put (written (now (out .entry)) at) (entryText (labelsIn (now (s .entry))) subscriptions (entryOf e)) ⌝ }
 {
     let mut next = put_members(out, at, e.members, subscriptions);
@@ -67,7 +67,7 @@ pub fn put_entry(out: &mut [u8], at: usize, s: &[u8], e: Entry, subscriptions: u
 
 // A table: the totals, and a line for each entry; the next place.
 pub fn put_table(out: &mut [u8], s: &[u8], t: Table, subscriptions: usize, rounds: usize) -> usize
-    requires { ⌜ SoundTable t ⌝ }
+    requires { ⌜ SoundTable t × (subscriptions ≤ 64) ⌝ }
     ensures { λ r. ⌜ written (now (out .exit)) r ≡ put (written (now (out .entry)) 0) (textOf (labelsIn (now (s .entry))) subscriptions (builtTable t rounds)) ⌝ }
 {
     let steps = steps_together(t);

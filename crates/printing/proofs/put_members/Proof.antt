@@ -1,25 +1,28 @@
--- `printing::put_members` meets its contract. The loop: the members still to come, put from here, give what all give; what is left of the set are their bits.
-use Prim.Native.Nat.{_-_, _/_, _^_}
-use mathlib.Core.Path.{_≡_, refl}
+-- `printing::put_members` meets its contract. The loop: the members still to come, put from here, give what all give.
+use Prim.Native.Nat.{_-_}
+use mathlib.Core.Path.{refl}
 use mathlib.Core.Bool.{false}
 use native.Mathlib.Omega.{arith}
 use borrow.Author.Needs.{needs}
 use Rattle.texts.specs.Output.{Left, left-first, left-goes-on, left-stays, left-none, left-same, put-is}
-use Rattle.printing.specs.Members.{numbersText, membersFrom, members-text, bits-first, bits-next, member-here, member-not, members-end}
+use Rattle.printing.specs.Members.{numbersText, membersFrom, members-text, member-here, member-not, members-end}
 use Rattle.printing.proofs.put_members.Statement.{statement}
 use Rattle.printing.proofs.put_members.Tie as tie
 
 abbrev Inv-loop : tie.InvT-loop
-Inv-loop out₀ at members n next₀ started₀ left₀ i₀ out next started left i = (left ≡ members / 2 ^ i) × Left out₀ at (numbersText false (membersFrom members 0 (n - 0))) out next (numbersText started (membersFrom members i (n - i)))
+Inv-loop out₀ at members n next₀ started₀ i₀ out next started i = Left out₀ at (numbersText false (membersFrom members 0 (n - 0))) out next (numbersText started (membersFrom members i (n - i)))
 
 abbrev μ-loop : tie.MeasureT-loop
-μ-loop out₀ at members n next₀ started₀ left₀ i₀ out next started left i = n - i
+μ-loop out₀ at members n next₀ started₀ i₀ out next started i = n - i
 
 loop-holds : tie.Need-loop-holds Inv-loop μ-loop
-loop-holds c = (bits-first _, left-first _ _ _)
+loop-holds c = left-first _ _ _
 
 add-i : tie.Need-add-i Inv-loop μ-loop
 add-i c = search needs
+
+is-member-requires : tie.Need-is-member-requires Inv-loop μ-loop
+is-member-requires c κs = search needs
 
 put-if-requires : tie.Need-put-if-requires Inv-loop μ-loop
 put-if-requires c κs = search needs
@@ -33,31 +36,23 @@ loop-less c = search needs
 loop-again : tie.Need-loop-again Inv-loop μ-loop
 loop-again c = let d = c .before .before in
     let f = d .before .before .before .before in
-    let l = f .before .before .before .before in
-    let s = l .before .before .args in (
-      bits-next (s .members) (l .loop .i) (l .loop .left) (l .loop .inv .0),
-      left-goes-on
-          (left-goes-on (l .loop .inv .1) _ _
-          (member-here (s .members) (s .n) (l .loop .i) (l .loop .left) (l .loop .inv .0) (omega arith) (l .loop .started) (f .before .before .if1 .taken)) _ _
-          (f .put-if .ensures))
-          _ _ refl _ _ (d .put-decimal .ensures),
-    )
+    let asked = f .before .before .before in
+    let l = asked .before .before in
+    let here = member-here _ (l .before .before .args .n) (l .loop .i) (omega arith) (l .loop .started) _ (asked .is-member .ensures) (f .before .before .if1 .taken) in
+    left-goes-on (left-goes-on (l .loop .inv) _ _ here _ _ (f .put-if .ensures)) _ _ refl _ _ (d .put-decimal .ensures)
 
 loop-less-2 : tie.Need-loop-less-2 Inv-loop μ-loop
 loop-less-2 c = search needs
 
 loop-again-2 : tie.Need-loop-again-2 Inv-loop μ-loop
-loop-again-2 c = let l = c .before .before in
-    let s = l .before .before .args in (
-      bits-next (s .members) (l .loop .i) (l .loop .left) (l .loop .inv .0),
-      left-stays (l .loop .inv .1) _ (member-not (s .members) (s .n) (l .loop .i) (l .loop .left) (l .loop .inv .0) (omega arith) (l .loop .started) (c .if1 .left)),
-    )
+loop-again-2 c = let l = c .before .before .before in
+    left-stays (l .loop .inv) _ (member-not _ (l .before .before .args .n) (l .loop .i) (omega arith) (l .loop .started) _ (c .before .is-member .ensures) (c .if1 .left))
 
 same-length : tie.Need-same-length Inv-loop μ-loop
-same-length c = left-same (c .before .loop .inv .1)
+same-length c = left-same (c .before .loop .inv)
 
 returns : tie.Need-returns Inv-loop μ-loop
-returns c = put-is _ _ _ _ (members-text _ _) (left-none (c .before .loop .inv .1) (members-end _ _ _ _ (omega arith)))
+returns c = put-is _ _ _ _ (members-text _ _) (left-none (c .before .loop .inv) (members-end _ _ _ _ (omega arith)))
 
 pub put-members-spec : {M : Type 1} → statement M
 put-members-spec =
@@ -67,6 +62,7 @@ put-members-spec =
     μ-loop
     loop-holds
     add-i
+    is-member-requires
     put-if-requires
     put-decimal-requires
     loop-less

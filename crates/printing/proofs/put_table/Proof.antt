@@ -16,7 +16,7 @@ abbrev μ-loop : tie.MeasureT-loop
 μ-loop out₀ s subscriptions rounds t steps next₀ i₀ out next i = t .count - i
 
 steps-together-requires : tie.Need-steps-together-requires Inv-loop μ-loop
-steps-together-requires c κs = c .before .before .pre
+steps-together-requires c κs = c .before .before .pre .0
 
 put-totals-requires : tie.Need-put-totals-requires Inv-loop μ-loop
 put-totals-requires c κs = tt
@@ -25,17 +25,18 @@ loop-holds : tie.Need-loop-holds Inv-loop μ-loop
 loop-holds c = left-first _ _ _
 
 mul-e : tie.Need-mul-e Inv-loop μ-loop
-mul-e c = omega (arith, c .before .before .before .before .before .before .before .before .before .pre .few)
+mul-e c = omega (arith, c .before .before .before .before .before .before .before .before .before .pre .0 .few)
 
 element-copy-out-e : tie.Need-element-copy-out-e Inv-loop μ-loop
-element-copy-out-e c = omega (arith, c .before .before .before .before .before .before .before .before .before .pre .few)
+element-copy-out-e c = omega (arith, c .before .before .before .before .before .before .before .before .before .pre .0 .few)
 
 add-i : tie.Need-add-i Inv-loop μ-loop
-add-i c = omega (arith, c .before .before .before .before .before .before .before .before .before .before .pre .few)
+add-i c = omega (arith, c .before .before .before .before .before .before .before .before .before .before .pre .0 .few)
 
 put-entry-requires : tie.Need-put-entry-requires Inv-loop μ-loop
 put-entry-requires c κs = let l = c .before .before .before in
-    entry-sound _ (l .before .before .before .before .before .before .before .before .pre) (l .loop .i) _ (c .before .before .loop-test .taken)
+    let pre = l .before .before .before .before .before .before .before .before .pre in
+    (entry-sound _ (pre .0) (l .loop .i) _ (c .before .before .loop-test .taken), pre .1)
 
 loop-less : tie.Need-loop-less Inv-loop μ-loop
 loop-less c = omega arith
@@ -44,7 +45,7 @@ loop-again : tie.Need-loop-again Inv-loop μ-loop
 loop-again c = let e = c .before .before in
     let l = e .before .before .before .before in
     let s = l .before .before .before .before .before .before .before .before in
-    left-goes-on (l .loop .inv) _ _ (entry-here (s .args .t3) (s .pre) (labelsIn (s .args .s .now)) (s .args .subscriptions) (l .loop .i) _ (omega arith)) _ _ (e .put-entry .ensures)
+    left-goes-on (l .loop .inv) _ _ (entry-here (s .args .t3) (s .pre .0) (labelsIn (s .args .s .now)) (s .args .subscriptions) (l .loop .i) _ (omega arith)) _ _ (e .put-entry .ensures)
 
 same-length : tie.Need-same-length Inv-loop μ-loop
 same-length c = let l = c .before in
@@ -55,9 +56,9 @@ returns c = let l = c .before in
     let s = l .before .before .before .before .before .before .before .before in
     let totals = l .before .before .before in
     let steps = totals .before .before in
-    put-is _ _ _ _ (table-text (s .args .t3) (s .pre) (labelsIn (s .args .s .now)) (s .args .subscriptions) (s .args .rounds) (steps .steps-together .result) (steps .steps-together .ensures .0))
+    put-is _ _ _ _ (table-text (s .args .t3) (s .pre .0) (labelsIn (s .args .s .now)) (s .args .subscriptions) (s .args .rounds) (steps .steps-together .result) (steps .steps-together .ensures .0))
     (put-then _ _ _ _ _ (totals .put-totals .ensures)
-    (left-none (l .loop .inv) (entries-end (s .args .t3) (s .pre) (labelsIn (s .args .s .now)) (s .args .subscriptions) (l .loop .i) (c .loop-test .left))))
+    (left-none (l .loop .inv) (entries-end (s .args .t3) (s .pre .0) (labelsIn (s .args .s .now)) (s .args .subscriptions) (l .loop .i) (c .loop-test .left))))
 
 pub put-table-spec : {M : Type 1} → statement M
 put-table-spec =

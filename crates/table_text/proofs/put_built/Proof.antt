@@ -17,7 +17,9 @@ build-requires : tie.Need-build-requires
 build-requires c κs = search needs
 
 put-table-requires : tie.Need-put-table-requires
-put-table-requires c κs = search needs
+put-table-requires c κs =
+    let v = c .before .before .before .before in
+    (c .before .before .build .ensures .3, subscriptions-stand _ _ (v .before .before .before .pre) (v .subscriptions-in .ensures) .few)
 
 same-length : tie.Need-same-length
 same-length c = search needs
