@@ -18,7 +18,7 @@ use Rattle.shapes.specs.declared.Entry.{Entry}
 use Rattle.shapes.specs.declared.Table.{Table}
 use Rattle.reading.specs.Places.{forestAt, afterPattern, forestsAt, patternCountAt, sheetAt}
 use Rattle.texts.specs.Output.{written, put, put-whole}
-use Rattle.pattern_text.specs.StepTexts.{labelsIn}
+use Rattle.texts.specs.StepTexts.{labelsIn}
 use Rattle.printing.specs.Tables.{builtTable, textOf, text-of}
 use Rattle.printing.specs.ShortLabels.{Short}
 use Rattle.printing.specs.Room.{Small, table-room, refused-room}

@@ -1,9 +1,9 @@
 // A table's text: first the totals, then a line for each entry: members ascending, pattern, labels as their bytes.
 use members::is_member;
-use pattern_text::put_pattern;
 use shapes::Entry;
 use shapes::Table;
 use shapes::steps_together;
+use texts::pattern::put_pattern;
 use texts::put_bytes;
 use texts::put_counted;
 use texts::put_decimal;
@@ -14,7 +14,7 @@ ghost use Rattle.meaning.specs.Routing.{membersOf};
 ghost use Rattle.meaning.specs.Printing.{commaText, entryText};
 ghost use Rattle.shapes.specs.Shapes.{entryOf, SoundPattern, SoundTable};
 ghost use Rattle.texts.specs.Output.{written, put};
-ghost use Rattle.pattern_text.specs.StepTexts.{labelsIn};
+ghost use Rattle.texts.specs.StepTexts.{labelsIn};
 ghost use Rattle.printing.specs.Tables.{totalsOf, builtTable, textOf};
 
 // The members of an entry, of n subscriptions, ascending, with a comma between them; the next place.

@@ -21,7 +21,7 @@ use Rattle.reading.specs.Judging.{sheetPlace}
 use Rattle.reading.specs.Judged.{reached, sheet-judged, SheetStands, sheet-stands}
 use Rattle.building.specs.Counting.{buildFrom, build-from}
 use Rattle.texts.specs.Output.{Written, put}
-use Rattle.pattern_text.specs.StepTexts.{labelsIn}
+use Rattle.texts.specs.StepTexts.{labelsIn}
 use Rattle.printing.specs.Tables.{builtTable, textOf, text-of}
 use Rattle.printing.specs.Printed.{sheet-labels}
 

@@ -1,4 +1,6 @@
 // Bytes, numbers in decimal and other pieces of text, put into a lent output from a place on, while there is room.
+pub mod pattern; // pattern.rt: a pattern as text
+
 ghost use mathlib.Core.Path.{_≡_};
 ghost use mathlib.Core.List.{_++_};
 ghost use Rattle.meaning.specs.Printing.{decimal, refusedText};

@@ -4,7 +4,7 @@ use mathlib.Core.Path.{_∙_}
 use native.Mathlib.Omega.{arith}
 use Rattle.shapes.specs.Tables.{entry-sound}
 use Rattle.texts.specs.Output.{Left, left-first, left-goes-on, left-none, left-same, put-then, put-is, same-room}
-use Rattle.pattern_text.specs.StepTexts.{labelsIn}
+use Rattle.texts.specs.StepTexts.{labelsIn}
 use Rattle.printing.specs.Tables.{entriesText, entry-here, entries-end, table-text}
 use Rattle.printing.proofs.put_table.Statement.{statement}
 use Rattle.printing.proofs.put_table.Tie as tie

@@ -1,19 +1,19 @@
 // A pattern's text: / near, // far, * any; one child follows at once, several stand in brackets; a dot without steps.
+use crate::put_bytes;
+use crate::put_if;
 use labels::after_labels;
 use labels::text_at;
 use meaning::Step;
 use places::byte_at;
 use shapes::Pattern;
-use texts::put_bytes;
-use texts::put_if;
 ghost use mathlib.Core.Path.{_≡_};
 ghost use Rattle.meaning.specs.Forest.{axisOf};
 ghost use Rattle.meaning.specs.Printing.{axisText, labelText, several, patternText};
 ghost use Rattle.laws.specs.Children.{childrenOf};
 ghost use Rattle.shapes.specs.Shapes.{stepsIn, patternOf, SoundPattern};
 ghost use Rattle.texts.specs.Output.{written, put};
-ghost use Rattle.pattern_text.specs.StepTexts.{labelsIn};
-ghost use Rattle.pattern_text.specs.Branches.{belowText, stepText};
+ghost use Rattle.texts.specs.StepTexts.{labelsIn};
+ghost use Rattle.texts.specs.Branches.{belowText, stepText};
 
 // An axis: / near, // far; the next place.
 fn put_axis(out: &mut [u8], at: usize, axis: u8) -> usize

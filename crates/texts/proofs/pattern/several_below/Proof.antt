@@ -1,4 +1,4 @@
--- `pattern_text::several_below` meets its contract. The loop: the branches counted and those still to come are all.
+-- `texts::pattern::several_below` meets its contract. The loop: the branches counted and those still to come are all.
 use Prim.Native.Nat.{_+_, _-_, _≤_}
 use mathlib.Core.Path.{_≡_}
 use native.Mathlib.Omega.{arith}
@@ -6,9 +6,9 @@ use borrow.Author.Needs.{needs}
 use Rattle.laws.specs.Children.{childrenFrom, childrenOf}
 use Rattle.shapes.specs.Shapes.{stepsIn}
 use Rattle.shapes.specs.Steps.{stepIn}
-use Rattle.pattern_text.specs.Branches.{branches, branch-counted, branch-not, all-counted}
-use Rattle.pattern_text.proofs.several_below.Statement.{statement}
-use Rattle.pattern_text.proofs.several_below.Tie as tie
+use Rattle.texts.specs.Branches.{branches, branch-counted, branch-not, all-counted}
+use Rattle.texts.proofs.pattern.several_below.Statement.{statement}
+use Rattle.texts.proofs.pattern.several_below.Tie as tie
 
 abbrev Inv-loop : tie.InvT-loop
 Inv-loop v p n₀ k₀ n k = (n ≤ k) × (n + branches (childrenFrom (stepsIn p) v k) ≡ branches (childrenOf (stepsIn p) v))

@@ -1,9 +1,9 @@
--- `pattern_text::put_axis` meets its contract. One stroke or two.
+-- `texts::pattern::put_axis` meets its contract. One stroke or two.
 use Rattle.texts.specs.Output.{put-is}
-use Rattle.pattern_text.specs.StepTexts.{near-text, far-text}
+use Rattle.texts.specs.StepTexts.{near-text, far-text}
 use borrow.Author.Needs.{needs}
-use Rattle.pattern_text.proofs.put_axis.Statement.{statement}
-use Rattle.pattern_text.proofs.put_axis.Tie as tie
+use Rattle.texts.proofs.pattern.put_axis.Statement.{statement}
+use Rattle.texts.proofs.pattern.put_axis.Tie as tie
 
 slice-aggregate-put-bytes : tie.Need-slice-aggregate-put-bytes
 slice-aggregate-put-bytes c = search needs

@@ -1,4 +1,4 @@
--- `pattern_text::put_below` meets its contract. The loop: what is left of the branches, put from here, gives what all of them give. The calls end since fewer steps are left.
+-- `texts::pattern::put_below` meets its contract. The loop: what is left of the branches, put from here, gives what all of them give. The calls end since fewer steps are left.
 use mathlib.Core.Path.{refl}
 use native.Mathlib.Omega.{arith}
 use borrow.Author.Needs.{needs}
@@ -7,20 +7,20 @@ use Rattle.meaning.specs.Printing.{branchesText}
 use Rattle.laws.specs.Children.{childrenFrom}
 use Rattle.shapes.specs.Shapes.{stepsIn}
 use Rattle.shapes.specs.Steps.{stepIn}
 use Rattle.texts.specs.Output.{Left, left-first, left-goes-on, left-stays, left-none, left-same, put-is}
-use Rattle.pattern_text.specs.StepTexts.{labelsIn}
-use Rattle.pattern_text.specs.Branches.{branch-text, other-text, end-text, below-text}
+use Rattle.texts.specs.StepTexts.{labelsIn}
+use Rattle.texts.specs.Branches.{branch-text, other-text, end-text, below-text}
 use Prim.Native.Nat.{ℕ, _-_, _≤_, _<_}
 use borrow.Fn.Kinds.{In}
 use borrow.Fn.PlainCycle.{Measures, is, falls, and}
-use Rattle.pattern_text.proofs.put_below.Reads as put-below
-use Rattle.pattern_text.proofs.put_below.Kinds as put-below-kinds
-use Rattle.pattern_text.proofs.+put_below.Lts-put_below as put-below-lts
+use Rattle.texts.proofs.pattern.put_below.Reads as put-below
+use Rattle.texts.proofs.pattern.put_below.Kinds as put-below-kinds
+use Rattle.texts.proofs.pattern.+put_below.Lts-put_below as put-below-lts
 use Rattle.texts.proofs.put_if.Reads as put-if-reads
-use Rattle.pattern_text.proofs.put_step.Reads as put-step-reads
-use Rattle.pattern_text.proofs.several_below.Reads as several-below-reads
-use Rattle.pattern_text.proofs.+put_below.{statement}
-use Rattle.pattern_text.proofs.+put_below.Tie.{close}
+use Rattle.texts.proofs.pattern.put_step.Reads as put-step-reads
+use Rattle.texts.proofs.pattern.several_below.Reads as several-below-reads
+use Rattle.texts.proofs.pattern.+put_below.{statement}
+use Rattle.texts.proofs.pattern.+put_below.Tie.{close}
 
 abbrev μ-put-below : Measures 2 put-below-kinds.ps ℕ
 μ-put-below κs a = a .1 .1 .1 .0 .count - a .1 .1 .1 .1 .0

@@ -1,9 +1,9 @@
--- `pattern_text::put_pattern` meets its contract. A dot, or the branches below the root.
+-- `texts::pattern::put_pattern` meets its contract. A dot, or the branches below the root.
 use Rattle.texts.specs.Output.{put-is}
-use Rattle.pattern_text.specs.Branches.{dot-text, pattern-text}
+use Rattle.texts.specs.Branches.{dot-text, pattern-text}
 use borrow.Author.Needs.{needs}
-use Rattle.pattern_text.proofs.put_pattern.Statement.{statement}
-use Rattle.pattern_text.proofs.put_pattern.Tie as tie
+use Rattle.texts.proofs.pattern.put_pattern.Statement.{statement}
+use Rattle.texts.proofs.pattern.put_pattern.Tie as tie
 
 slice-aggregate-put-bytes : tie.Need-slice-aggregate-put-bytes
 slice-aggregate-put-bytes c = search needs

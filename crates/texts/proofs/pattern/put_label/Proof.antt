@@ -1,12 +1,12 @@
--- `pattern_text::put_label` meets its contract. Any, no label, or the bytes at the label's place.
+-- `texts::pattern::put_label` meets its contract. Any, no label, or the bytes at the label's place.
 use mathlib.Core.Path.{sym, ap, _∙_}
 use native.Mathlib.Omega.{arith}
 use Rattle.labels.specs.Places.{textAt}
 use Rattle.texts.specs.Output.{put-is, put-nothing}
-use Rattle.pattern_text.specs.StepTexts.{any-text, no-text, label-text}
+use Rattle.texts.specs.StepTexts.{any-text, no-text, label-text}
 use borrow.Author.Needs.{needs}
-use Rattle.pattern_text.proofs.put_label.Statement.{statement}
-use Rattle.pattern_text.proofs.put_label.Tie as tie
+use Rattle.texts.proofs.pattern.put_label.Statement.{statement}
+use Rattle.texts.proofs.pattern.put_label.Tie as tie
 
 slice-aggregate-put-bytes : tie.Need-slice-aggregate-put-bytes
 slice-aggregate-put-bytes c = search needs

@@ -1,9 +1,9 @@
--- `pattern_text::put_step` meets its contract. The axis, and then the label.
+-- `texts::pattern::put_step` meets its contract. The axis, and then the label.
 use Rattle.texts.specs.Output.{put-then}
-use Rattle.pattern_text.specs.Branches.{stepText}
+use Rattle.texts.specs.Branches.{stepText}
 use borrow.Author.Needs.{needs}
-use Rattle.pattern_text.proofs.put_step.Statement.{statement}
-use Rattle.pattern_text.proofs.put_step.Tie as tie
+use Rattle.texts.proofs.pattern.put_step.Statement.{statement}
+use Rattle.texts.proofs.pattern.put_step.Tie as tie
 
 put-axis-requires : tie.Need-put-axis-requires
 put-axis-requires c κs = search needs

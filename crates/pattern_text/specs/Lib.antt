@@ -1,2 +1,0 @@
-pub mod StepTexts
-pub mod Branches
