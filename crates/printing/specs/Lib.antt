@@ -2,4 +2,5 @@ pub mod Members
 pub mod Tables
 pub mod ShortLabels
 pub mod Room
+pub mod Enough
 pub mod Printed

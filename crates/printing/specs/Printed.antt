@@ -1,65 +1,100 @@
--- What stands in the output after a table or a refusal is put at its start, where there is room.
-use Prim.Native.Nat.{ℕ, _+_, _≤_, _<_}
+-- What is printed for two bytes of limit and a sheet, by the place where judging the sheet ended: the text of the table that is built, or of the refusal.
+use Prim.Native.Nat.{ℕ, _+_, _-_, _*_, _≤_, _<_}
 use mathlib.Core.Path.{_≡_, refl, sym, ap, _∙_}
-use mathlib.Core.Logic.{⊎-elim}
-use mathlib.Core.List.{List, [], _∷_, _++_, map, List·Memᴰ, List·Memᴰ·head, List·Memᴰ·tail, List·Memᴰ·cases-cons}
+use mathlib.Core.List.{List, [], _∷_}
 use native.Mathlib.Omega.{arith}
-use lib.ListN.{length, getD, drop}
-use Rattle.base.specs.Standing.{length-standing}
-use Rattle.meaning.specs.Numbers.{mostPatterns, mostSteps}
-use Rattle.meaning.specs.Forest.{size}
-use Rattle.meaning.specs.Sections.{Sheet}
-use Rattle.meaning.specs.Sections
-use Rattle.meaning.specs.Printing.{tableText, refusedText}
-use Rattle.shapes.specs.Shapes.{entryOf, entriesIn, tableOf, SoundPattern, SoundTable}
-use Rattle.shapes.specs.Steps.{count-size}
-use Rattle.shapes.specs.Tables.{length-table}
-use Rattle.shapes.specs.declared.Entry.{Entry}
+use lib.ListN.{length, take, drop, length-drop}
+use lib.Seq.{take-all}
+use Rattle.base.specs.declared.Cur.{Cur}
+use Rattle.base.specs.declared.Cur.the-variants.{At, No}
+use Rattle.meaning.specs.Reader.{Reading, read, refused, go-on, _>>=_, give, byte, number}
+use Rattle.meaning.specs.Sections.{Sheet, sheet}
+use Rattle.meaning.specs.Building.{build, entriesFrom}
+use Rattle.meaning.specs.Building as Building
+use Rattle.meaning.specs.Calls.{judged}
+use Rattle.meaning.specs.Printing.{tableText, refusedText, Asking, asking, printed}
+use Rattle.shapes.specs.Shapes.{tableOf}
 use Rattle.shapes.specs.declared.Table.{Table}
-use Rattle.reading.specs.Places.{forestAt, afterPattern, forestsAt, patternCountAt, sheetAt}
-use Rattle.texts.specs.Output.{written, put, put-whole}
+use Rattle.reading.specs.Places.{sheetAt}
+use Rattle.places.specs.Bytes.{pairAt}
+use Rattle.reading.specs.Judging.{sheetPlace}
+use Rattle.reading.specs.Judged.{reached, sheet-judged, SheetStands, sheet-stands}
+use Rattle.building.specs.Counting.{buildFrom, build-from}
+use Rattle.texts.specs.Output.{Written, put}
 use Rattle.texts.specs.StepTexts.{labelsIn}
 use Rattle.printing.specs.Tables.{builtTable, textOf, text-of}
-use Rattle.printing.specs.ShortLabels.{Short}
-use Rattle.printing.specs.Room.{Small, table-room, refused-room}
 
 -- the labels that are put are the sheet's
-pub sheet-labels : (s : List ℕ) → sheetAt s .labels ≡ labelsIn s
+sheet-labels : (s : List ℕ) → sheetAt s .labels ≡ labelsIn s
 unfolding sheetAt labelsIn
 sheet-labels s = refl
 
--- and it has as many subscriptions as it counts
-pub sheet-subscriptions : (s : List ℕ) → length (sheetAt s .patterns) ≡ getD s (patternCountAt s) 0
-unfolding sheetAt forestsAt
-sheet-subscriptions s = length-standing (forestAt s) (afterPattern s) (patternCountAt s + 1) (getD s (patternCountAt s) 0)
+-- the text of a table that was built from one entry for each subscription is that of the build
+pub text-built : (s : List ℕ) (count limit rounds : ℕ) (t first : Table) → count ≡ length (sheetAt s .patterns)
+    → tableOf first ≡ entriesFrom 0 (sheetAt s .patterns) → tableOf t ≡ buildFrom limit (tableOf first) .entries → rounds ≡ buildFrom limit (tableOf first) .rounds
+    → textOf (labelsIn s) count (builtTable t rounds) ≡ tableText (sheetAt s) (build limit (sheetAt s .patterns))
+unfolding builtTable
+text-built s count limit rounds t first counted one entries turns =
+    let built : buildFrom limit (tableOf first) ≡ build limit (sheetAt s .patterns) = ap (buildFrom limit) one ∙ build-from limit (sheetAt s .patterns) in
+    let same : builtTable t rounds ≡ build limit (sheetAt s .patterns) =
+    λ i. record { entries = (entries ∙ ap (λ (b : Building.Table). b .entries) built) i; rounds = (turns ∙ ap (λ (b : Building.Table). b .rounds) built) i } in
+    sym (text-of (sheetAt s) (labelsIn s) count (builtTable t rounds) (sheet-labels s) (sym counted)) ∙ ap (tableText (sheetAt s)) same
 
--- no entry has more steps than may be
-small-entries : (es : List Entry) → ((e : Entry) → List·Memᴰ e es → SoundPattern (e .pattern)) → (x : Sections.Entry) → List·Memᴰ x (map entryOf es) → size (x .pattern) ≤ mostSteps
-unfolding entryOf
-small-entries [] sound x m = elim m [ ]
-small-entries (e ∷ es) sound x m =
-    ⊎-elim
-    (λ q. omega (arith, ap (λ (y : Sections.Entry). size (y .pattern)) q, count-size (e .pattern) (sound e (List·Memᴰ·head refl)), sound e (List·Memᴰ·head refl) .few))
-    (small-entries es (λ y k. sound y (List·Memᴰ·tail k)) x)
-    (List·Memᴰ·cases-cons m)
+-- fewer than two bytes of limit
+pub printed-short : (s : List ℕ) → length s < 2 → printed s ≡ refusedText 1
+unfolding printed asking number _>>=_ go-on byte judged
+printed-short [] h = refl
+printed-short (a ∷ []) h = refl
+printed-short (a ∷ b ∷ rest) h = absurd (omega arith)
 
--- a sound table by value is within the limits
-pub small-table : (t : Table) (rounds : ℕ) → SoundTable t → rounds < 100000 → Small (builtTable t rounds)
-unfolding builtTable tableOf
-small-table t rounds sound h =
-    record { few = omega (arith, length-table t sound, sound .few); small = small-entries (entriesIn t) (sound .patterns); rounds = h }
+-- a value that is only put together changes no refusal
+judged-made : {A B C : Type 0} (r : Reading A) (f : A → B) (refuse : ℕ → C) (next : B → C) → judged (go-on r (λ a. give (f a))) refuse next ≡ judged r refuse (λ a. next (f a))
+unfolding judged go-on give
+judged-made (read a left) f refuse next = refl
+judged-made (refused n) f refuse next = refl
 
--- after `put_table` the output begins with the table's text, and the next place is its length
-pub table-printed : (sh : Sheet) (s : List ℕ) (subscriptions : ℕ) (t : Table) (rounds : ℕ) (out after : List ℕ) (next : ℕ)
-    → SoundTable t → rounds < 100000 → sh .labels ≡ labelsIn s → Short (sh .labels) → length (sh .patterns) ≡ subscriptions → subscriptions ≤ mostPatterns
-    → 80000 ≤ length out → written after next ≡ put (written out 0) (textOf (labelsIn s) subscriptions (builtTable t rounds))
-    → (next ≡ length (tableText sh (builtTable t rounds))) × (after ≡ tableText sh (builtTable t rounds) ++ drop (length (tableText sh (builtTable t rounds))) out)
-table-printed sh s subscriptions t rounds out after next sound few e short f l room h =
-    let text = tableText sh (builtTable t rounds) in
-    let enough = table-room sh (builtTable t rounds) short (omega arith) (small-table t rounds sound few) in
-    put-whole text out after next (omega arith) (h ∙ ap (put (written out 0)) (sym (text-of sh (labelsIn s) subscriptions (builtTable t rounds) e f)))
+-- otherwise the sheet behind them decides
+pub printed-sheet : (s : List ℕ) → 2 ≤ length s
+    → printed s ≡ reached (sheetPlace (drop 2 s)) refusedText (tableText (sheetAt (drop 2 s)) (build (pairAt s 0) (sheetAt (drop 2 s) .patterns)))
+unfolding printed asking number _>>=_ go-on byte give pairAt
+printed-sheet [] h = absurd (omega arith)
+printed-sheet (a ∷ []) h = absurd (omega arith)
+printed-sheet (a ∷ b ∷ rest) h =
+    let limit : ℕ = a + 256 * (b + 256 * 0) in
+    let same : limit ≡ a + 256 * b = omega arith in
+    judged-made (sheet rest) (asked limit) refusedText textFor
+    ∙ sheet-judged rest refusedText (λ sh. textFor (asked limit sh))
+    ∙ ap (λ (l : ℕ). reached (sheetPlace rest) refusedText (tableText (sheetAt rest) (build l (sheetAt rest .patterns)))) same
+  where
+    asked : ℕ → Sheet → Asking
+    asked l sh = record { limit = l; sheet = sh }
 
--- after `put_refused` it begins with the refusal
-pub refused-printed : (n : ℕ) (out after : List ℕ) (next : ℕ) → n < 100 → 11 ≤ length out → written after next ≡ put (written out 0) (refusedText n)
-    → (next ≡ length (refusedText n)) × (after ≡ refusedText n ++ drop (length (refusedText n)) out)
-refused-printed n out after next small room h = put-whole (refusedText n) out after next (omega (arith, refused-room n small)) h
+    textFor : Asking → List ℕ
+    textFor x = tableText (x .sheet) (build (x .limit) (x .sheet .patterns))
+
+-- ---- what was put, as the function has it
+
+-- the bytes behind the limit
+part-is : (s : List ℕ) → take (length s - 2) (drop 2 s) ≡ drop 2 s
+part-is s = take-all (length s - 2) (drop 2 s) (omega (arith, length-drop 2 s))
+
+pub put-short : (s : List ℕ) (w out : Written) → w ≡ put out (refusedText 1) → length s < 2 → w ≡ put out (printed s)
+put-short s w out e h = e ∙ ap (put out) (sym (printed-short s h))
+
+pub put-no : (s : List ℕ) (w out : Written) (c : Cur) (m : ℕ) → 2 ≤ length s → c ≡ sheetPlace (take (length s - 2) (drop 2 s)) → c ≡ No m
+    → w ≡ put out (refusedText m) → w ≡ put out (printed s)
+unfolding reached
+put-no s w out c m h e n p =
+    let at : sheetPlace (drop 2 s) ≡ No m = ap sheetPlace (sym (part-is s)) ∙ sym e ∙ n in
+    p ∙ ap (put out) (sym (printed-sheet s h ∙ rw at))
+
+pub put-yes : (s : List ℕ) (w out : Written) (c : Cur) (x limit : ℕ) → 2 ≤ length s → c ≡ sheetPlace (take (length s - 2) (drop 2 s)) → c ≡ At x → limit ≡ pairAt s 0
+    → w ≡ put out (tableText (sheetAt (take (length s - 2) (drop 2 s))) (build limit (sheetAt (take (length s - 2) (drop 2 s)) .patterns))) → w ≡ put out (printed s)
+unfolding reached
+put-yes s w out c x limit h e n l p =
+    let at : sheetPlace (drop 2 s) ≡ At x = ap sheetPlace (sym (part-is s)) ∙ sym e ∙ n in
+    let q = rw (part-is s, l) at p in
+    q ∙ ap (put out) (sym (printed-sheet s h ∙ rw at))
+
+pub part-stands : (p : List ℕ) (c : Cur) (x : ℕ) → c ≡ sheetPlace p → c ≡ At x → SheetStands p
+part-stands p c x e n = sheet-stands p x (sym e ∙ n)

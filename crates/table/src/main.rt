@@ -8,7 +8,7 @@ fn main() {
     let read = io::read_full(STDIN_FILENO, &mut input);
     // The longest text of a table has fewer than 80,000 bytes.
     let mut out = [0u8; 80000];
-    let long = table_text::put_text(&input[..read], &mut out);
+    let long = printing::printed::put_text(&input[..read], &mut out);
     show(&out, long);
 }
 

@@ -1,9 +1,9 @@
--- `table_text::put_text` meets its contract: a short input and a sheet that is refused give a refusal, any other sheet its table.
+-- `printing::printed::put_text` meets its contract: a short input and a sheet that is refused give a refusal, any other sheet its table.
 use native.Mathlib.Omega.{arith}
-use Rattle.table_text.specs.Whole.{put-short, put-no, put-yes, part-stands}
+use Rattle.printing.specs.Printed.{put-short, put-no, put-yes, part-stands}
 use borrow.Author.Needs.{needs}
-use Rattle.table_text.proofs.put_text.Statement.{statement}
-use Rattle.table_text.proofs.put_text.Tie as tie
+use Rattle.printing.proofs.printed.put_text.Statement.{statement}
+use Rattle.printing.proofs.printed.put_text.Tie as tie
 
 put-refused-requires : tie.Need-put-refused-requires
 put-refused-requires c κs = search needs

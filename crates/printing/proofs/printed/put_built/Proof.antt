@@ -1,11 +1,11 @@
--- `table_text::put_built` meets its contract: the table put is the one built from the sheet's subscriptions.
+-- `printing::printed::put_built` meets its contract: the table put is the one built from the sheet's subscriptions.
 use mathlib.Core.Path.{_∙_, ap}
 use Rattle.patterns.specs.Subscribed.{subscriptions-stand}
 use Rattle.texts.specs.Output.{put}
-use Rattle.table_text.specs.Whole.{text-built}
+use Rattle.printing.specs.Printed.{text-built}
 use borrow.Author.Needs.{needs}
-use Rattle.table_text.proofs.put_built.Statement.{statement}
-use Rattle.table_text.proofs.put_built.Tie as tie
+use Rattle.printing.proofs.printed.put_built.Statement.{statement}
+use Rattle.printing.proofs.printed.put_built.Tie as tie
 
 subscriptions-in-requires : tie.Need-subscriptions-in-requires
 subscriptions-in-requires c κs = search needs

@@ -1,10 +1,10 @@
-// What the program prints for two bytes of limit and a sheet: the table, or the refusal.
+// What is printed for two bytes of limit and a sheet: the table that is built, or the refusal.
+use crate::put_table;
 use answers::built::first_entries;
 use base::Cur;
 use building::build;
 use patterns::subscriptions_in;
 use places::pair_at;
-use printing::put_table;
 use reading::sheet;
 use texts::put_refused;
 ghost use mathlib.Core.Path.{_≡_};
