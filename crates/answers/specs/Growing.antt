@@ -68,8 +68,8 @@ module _ (ps : List Forest) where
       none-there f m = absurd (List·Memᴰ·not-nil (rw e at m))
 
   -- and one more
-  pub first-more : (i : ℕ) (t u : Table) (e : Entry) → i < length ps → FirstOnes i t → tableOf u ≡ tableOf t ++ (entryOf e ∷ []) → u .count ≡ t .count + 1 → SoundTable u
-      → e .members ≡ 2 ^ i → patternOf (e .pattern) ≡ getD ps i none → FirstOnes (i + 1) u
+  pub first-more : (i : ℕ) (t u : Table) (e : Entry) → i < length ps → FirstOnes i t
+      → tableOf u ≡ tableOf t ++ (entryOf e ∷ []) → u .count ≡ t .count + 1 → SoundTable u → e .members ≡ 2 ^ i → patternOf (e .pattern) ≡ getD ps i none → FirstOnes (i + 1) u
   unfolding entryOf
   first-more i t u e h z grew counted sound one is =
       let long : length (take i ps) ≡ i = length-take-le i ps (omega arith) in

@@ -1,14 +1,17 @@
 -- A set of subscriptions is made by marking one after the other: its members, its bound, and the delivery set of answers.
 use Prim.Native.Nat.{ℕ, zero, suc, _+_, _*_, _/_, _%_, _^_, _<_}
 use mathlib.Core.Path.{_≡_, refl, sym, ap, _∙_}
-use mathlib.Core.Bool.{Bool, true, false, _&&_, _||_, or-false, false≢true, true≢false}
+use mathlib.Core.Logic.{⊎-elim}
+use mathlib.Core.Bool.{Bool, true, false, _&&_, _||_, or-false}
 use mathlib.Core.List.{List, [], _∷_, _++_}
 use native.Mathlib.Omega.{arith}
 use native.Mathlib.Nat.{pow-suc}
+use borrow.Author.Tests.{eqb-true, eqb-false}
 use lib.Bits.{bitOr, or-lt, or-shifted-r}
 use lib.Dec.{eqb}
 use lib.ListN.{length}
 use lib.Pow.{pow-lt}
+use Rattle.base.specs.Bools.{true-or-false}
 use Rattle.base.specs.Choice.{pick}
 use Rattle.meaning.specs.Fair.{isMember}
 use Rattle.meaning.specs.Routing.{deliverySet}
@@ -41,13 +44,11 @@ same-members (suc n) a b h k same =
     omega arith
   where
     bit : (u v : ℕ) → u < 2 → v < 2 → eqb u 1 ≡ eqb v 1 → u ≡ v
-    bit zero zero p q e = refl
-    bit zero (suc zero) p q e = absurd (false≢true e)
-    bit (suc zero) zero p q e = absurd (true≢false e)
-    bit (suc zero) (suc zero) p q e = refl
-    bit zero (suc (suc v)) p q e = absurd (omega arith)
-    bit (suc zero) (suc (suc v)) p q e = absurd (omega arith)
-    bit (suc (suc u)) v p q e = absurd (omega arith)
+    bit u v p q e =
+        ⊎-elim
+        (λ t. omega (arith, eqb-true u 1 t, eqb-true v 1 (sym e ∙ t)))
+        (λ f. omega (arith, eqb-false u 1 f, eqb-false v 1 (sym e ∙ f)))
+        (true-or-false (eqb u 1))
 
 -- one answer more in a delivery set
 added : (xs : List Bool) (said : Bool) → deliverySet (xs ++ (said ∷ [])) ≡ deliverySet xs + pick said (2 ^ length xs) 0

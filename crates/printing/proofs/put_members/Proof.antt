@@ -10,7 +10,8 @@ use Rattle.printing.proofs.put_members.Statement.{statement}
 use Rattle.printing.proofs.put_members.Tie as tie
 
 abbrev Inv-loop : tie.InvT-loop
-Inv-loop out₀ at members n next₀ started₀ i₀ out next started i = Left out₀ at (numbersText false (membersFrom members 0 (n - 0))) out next (numbersText started (membersFrom members i (n - i)))
+Inv-loop out₀ at members n next₀ started₀ i₀ out next started i =
+    Left out₀ at (numbersText false (membersFrom members 0 (n - 0))) out next (numbersText started (membersFrom members i (n - i)))
 
 abbrev μ-loop : tie.MeasureT-loop
 μ-loop out₀ at members n next₀ started₀ i₀ out next started i = n - i
@@ -38,7 +39,8 @@ loop-again c = let d = c .before .before in
     let f = d .before .before .before .before in
     let asked = f .before .before .before in
     let l = asked .before .before in
-    let here = member-here _ (l .before .before .args .n) (l .loop .i) (omega arith) (l .loop .started) _ (asked .is-member .ensures) (f .before .before .if1 .taken) in
+    let n = l .before .before .args .n in
+    let here = member-here _ n (l .loop .i) (omega arith) (l .loop .started) _ (asked .is-member .ensures) (f .before .before .if1 .taken) in
     left-goes-on (left-goes-on (l .loop .inv) _ _ here _ _ (f .put-if .ensures)) _ _ refl _ _ (d .put-decimal .ensures)
 
 loop-less-2 : tie.Need-loop-less-2 Inv-loop μ-loop
@@ -46,7 +48,8 @@ loop-less-2 c = search needs
 
 loop-again-2 : tie.Need-loop-again-2 Inv-loop μ-loop
 loop-again-2 c = let l = c .before .before .before in
-    left-stays (l .loop .inv) _ (member-not _ (l .before .before .args .n) (l .loop .i) (omega arith) (l .loop .started) _ (c .before .is-member .ensures) (c .if1 .left))
+    let n = l .before .before .args .n in
+    left-stays (l .loop .inv) _ (member-not _ n (l .loop .i) (omega arith) (l .loop .started) _ (c .before .is-member .ensures) (c .if1 .left))
 
 same-length : tie.Need-same-length Inv-loop μ-loop
 same-length c = left-same (c .before .loop .inv)

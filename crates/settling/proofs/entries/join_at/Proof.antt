@@ -35,7 +35,8 @@ remove-requires c κs =
 returns : tie.Need-returns
 returns c =
     let a = c .before .before .before .before in
-    (c .remove .ensures .0 ∙ both-joined (a .args .t1) (a .pre .0) (a .args .p) (a .args .i) (a .args .j) (a .pre .2) (a .pre .3) _ (c .before .union .ensures) refl, c .remove .ensures .1)
+    let both = both-joined (a .args .t1) (a .pre .0) (a .args .p) (a .args .i) (a .args .j) (a .pre .2) (a .pre .3) _ (c .before .union .ensures) refl in
+    (c .remove .ensures .0 ∙ both, c .remove .ensures .1)
 
 pub join-at-spec : {M : Type 1} → statement M
 join-at-spec =
