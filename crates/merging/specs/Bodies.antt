@@ -1,20 +1,19 @@
 -- The body of a pair of steps, and the table that keeps each body once.
 use Prim.Native.Nat.{ℕ, _≤_}
-use mathlib.Core.Path.{_≡_, refl, sym, _∙_, ap}
-use mathlib.Core.Bool.{Bool, true, false, _&&_}
+use mathlib.Core.Path.{_≡_, sym, _∙_, ap}
+use mathlib.Core.Bool.{Bool, true, false}
 use mathlib.Core.List.{List, []}
 use native.Mathlib.Omega.{arith}
 use lib.ListN.{length, getD, set, replicate, length-set, length-replicate, getD-replicate}
 use Rattle.base.specs.Choice.{pick}
-use Rattle.meaning.specs.Satisfying.{anyOrSame}
-use Rattle.meaning.specs.Covering.{stepAt, lays}
-use Rattle.meaning.specs.Merging.{joined, Building, nothing, Body, commonLabel, bodyOf, meet, meetAt, through}
+use Rattle.meaning.specs.Covering.{stepAt}
+use Rattle.meaning.specs.Merging.{joined, Building, nothing, Body, commonLabel, bodyOf, through}
 use Rattle.meaning.specs.declared.Step.{Step}
 use Rattle.shapes.specs.Shapes.{patternOf, stepsIn}
 use Rattle.shapes.specs.declared.Pattern.{Pattern}
 use Rattle.laws.specs.Children.{childrenOf}
 use Rattle.covering.specs.Questions.{childrenLie, liesAt}
-use Rattle.covering.specs.Notes.{Noted, cellOf, cell-filled}
+use Rattle.covering.specs.Notes.{PairOfSteps, Noted, cellOf, cell-filled}
 use Rattle.offering.specs.declared.Marked.{Marked}
 use Rattle.offering.specs.Branches.{joined-branches, buildingAt}
 use Rattle.offering.specs.Offers.{buildingOf, Built}
@@ -33,35 +32,25 @@ module _ (a b : List Step) (v w : ℕ) where
   -- that of v, which can be laid at w
   pub takes-first : (laid : Bool) → laid ≡ liesAt a v b w → laid ≡ true → bodyAt a v ≡ bodyFor a b v w
   unfolding bodyAt bodyFor bodyOf pick liesAt childrenLie
-  takes-first laid e t = let yes : (anyOrSame (stepAt a v .label) (stepAt b w .label) && lays (childrenOf a v) (childrenOf b w)) ≡ true = sym e ∙ t in rw yes
+  takes-first laid e t = rw (sym e ∙ t)
 
-  -- otherwise that of w, which can be laid at v
-  pub takes-second : (laid other : Bool) → laid ≡ liesAt a v b w → laid ≡ false → other ≡ liesAt b w a v → other ≡ true → bodyAt b w ≡ bodyFor a b v w
-  unfolding bodyAt bodyFor bodyOf pick liesAt childrenLie
-  takes-second laid other e u f t =
-      let un : (anyOrSame (stepAt a v .label) (stepAt b w .label) && lays (childrenOf a v) (childrenOf b w)) ≡ false = sym e ∙ u in
-      let yes : (anyOrSame (stepAt b w .label) (stepAt a v .label) && lays (childrenOf b w) (childrenOf a v)) ≡ true = sym f ∙ t in
-      rw (un, yes)
+  module _ (laid other : Bool) (said : laid ≡ liesAt a v b w) (not-first : laid ≡ false) (said₂ : other ≡ liesAt b w a v) where
+    -- otherwise that of w, which can be laid at v
+    pub takes-second : other ≡ true → bodyAt b w ≡ bodyFor a b v w
+    unfolding bodyAt bodyFor bodyOf pick liesAt childrenLie
+    takes-second t = rw (sym said ∙ not-first, sym said₂ ∙ t)
 
-  -- otherwise it is built
-  pub makes : (laid other : Bool) → laid ≡ liesAt a v b w → laid ≡ false → other ≡ liesAt b w a v → other ≡ false
-      → (built : Marked) → Built 1 built (through 16 (childrenOf a v) true 1 (childrenOf b w) nothing)
-      → _≡_ {A = Body} (record { label = commonLabel (stepAt a v .label) (stepAt b w .label); kids = patternOf (built .pattern); clipped = built .clipped }) (bodyFor a b v w)
-  unfolding bodyFor bodyOf pick liesAt childrenLie buildingOf buildingAt
-  makes laid other e u f t built h =
-      let un : (anyOrSame (stepAt a v .label) (stepAt b w .label) && lays (childrenOf a v) (childrenOf b w)) ≡ false = sym e ∙ u in
-      let un₂ : (anyOrSame (stepAt b w .label) (stepAt a v .label) && lays (childrenOf b w) (childrenOf a v)) ≡ false = sym f ∙ t in
-      let whole = through 16 (childrenOf a v) true 1 (childrenOf b w) nothing in
-      let kids-are : patternOf (built .pattern) ≡ joined (whole .kept) = sym (joined-branches (patternOf (built .pattern))) ∙ ap (λ (x : Building). joined (x .kept)) (h .is) in
-      let mark-is : built .clipped ≡ whole .clipped = ap (λ (x : Building). x .clipped) (h .is) in
-      rw (un, un₂, kids-are, mark-is)
-
-  -- what a pair makes of what is being built
-  pub meets : (own : ℕ) (nearV nearW : Bool) (b₀ : Building)
-      → meet 16 own (nearV && nearW) (bodyFor a b v w) b₀
-      ≡ meetAt 16 own nearV (stepAt a v .label) (childrenOf a v) (λ ws. through 16 (childrenOf a v) true 1 ws nothing) nearW (stepAt b w .label) (childrenOf b w) b₀
-  unfolding meetAt bodyFor
-  meets own nearV nearW b₀ = refl
+    -- otherwise it is built
+    pub makes : other ≡ false → (label : ℕ) → label ≡ commonLabel (stepAt a v .label) (stepAt b w .label)
+        → (built : Marked) → Built 1 built (through 16 (childrenOf a v) true 1 (childrenOf b w) nothing)
+        → _≡_ {A = Body} (record { label = label; kids = patternOf (built .pattern); clipped = built .clipped }) (bodyFor a b v w)
+    unfolding bodyFor bodyOf pick liesAt childrenLie buildingOf buildingAt
+    makes not-second label label-is built h =
+        let whole = through 16 (childrenOf a v) true 1 (childrenOf b w) nothing in
+        let kids-are : patternOf (built .pattern) ≡ joined (whole .kept) =
+        sym (joined-branches (patternOf (built .pattern))) ∙ ap (λ (x : Building). joined (x .kept)) (h .is) in
+        let mark-is : built .clipped ≡ whole .clipped = ap (λ (x : Building). x .clipped) (h .is) in
+        rw (sym said ∙ not-first, sym said₂ ∙ not-second, label-is, kids-are, mark-is)
 
 -- ---- the table
 
@@ -85,14 +74,22 @@ pub nothing-known : (p q : Pattern) → Remembered p q (replicate 256 (replicate
 unfolding Slot cellOf
 nothing-known p q = record {
   full = length-replicate {A = List ℕ} 256 (replicate 50 0);
-  right = λ v w h i j k filled. absurd (filled (ap (λ (bs : List ℕ). getD bs 0 0) (getD-replicate {A = List ℕ} 256 (cellOf v w) (replicate 50 0) [] (omega arith))));
+  right = λ v w h i j k filled.
+      let empty = getD-replicate {A = List ℕ} 256 (cellOf v w) (replicate 50 0) [] (omega arith) in
+      absurd (filled (ap (λ (bs : List ℕ). getD bs 0 0) empty));
 }
 
--- a body that is kept at its pair
-pub body-kept : (p q : Pattern) (memo : List (List ℕ)) (v w : ℕ) (bs : List ℕ) → Remembered p q memo → 1 ≤ v → v ≤ 16 → 1 ≤ w → w ≤ 16
-    → Packed bs (bodyFor (stepsIn p) (stepsIn q) v w) → Remembered p q (set memo (cellOf v w) bs)
-unfolding Slot
-body-kept p q memo v w bs h hv lv hw lw new = record {
-  full = length-set memo (cellOf v w) bs ∙ h .full;
-  right = cell-filled (λ x y. Slot (bodyFor (stepsIn p) (stepsIn q) x y)) memo v w bs [] (h .full) hv lv hw lw (λ filled. new) (h .right);
-}
+module _ {p q : Pattern} {memo : List (List ℕ)} (v w : ℕ) (pair : PairOfSteps v w) (h : Remembered p q memo) where
+  -- a slot that is not empty holds the body of its pair
+  pub body-found : (getD (getD memo (cellOf v w) []) 0 0 ≡ 0 → ⊥) → Packed (getD memo (cellOf v w) []) (bodyFor (stepsIn p) (stepsIn q) v w)
+  unfolding Slot
+  body-found filled = h .right v w (pair .0) (pair .1) (pair .2) (pair .3) filled
+
+  -- a body that is kept at its pair
+  pub body-kept : (bs : List ℕ) → Packed bs (bodyFor (stepsIn p) (stepsIn q) v w) → Remembered p q (set memo (cellOf v w) bs)
+  unfolding Slot
+  body-kept bs new = record {
+    full = length-set memo (cellOf v w) bs ∙ h .full;
+    right = cell-filled (λ x y. Slot (bodyFor (stepsIn p) (stepsIn q) x y)) memo v w bs [] (h .full) (pair .0) (pair .1) (pair .2) (pair .3)
+        (λ filled. new) (h .right);
+  }

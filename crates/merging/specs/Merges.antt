@@ -38,12 +38,13 @@ module _ (p q : Pattern) (first second : Bool) (said : first ≡ covers (pattern
 
     -- where neither covers, the merge is built
     built-merge : second ≡ false → mergeWithin 16 (patternOf p) (patternOf q)
-        ≡ record { pattern = joined (through 16 (patternOf p) true 0 (patternOf q) nothing .kept); clipped = through 16 (patternOf p) true 0 (patternOf q) nothing .clipped }
+        ≡ (let whole = through 16 (patternOf p) true 0 (patternOf q) nothing in record { pattern = joined (whole .kept); clipped = whole .clipped })
     unfolding mergeWithin pick
     built-merge u = rw (sym said ∙ un, sym said₂ ∙ u)
 
     -- it is built
-    pub merges-built : second ≡ false → (r : Marked) → Built 0 r (through 16 (childrenOf (stepsIn p) 0) true 0 (childrenOf (stepsIn q) 0) nothing) → IsMerge r (merge (patternOf p) (patternOf q))
+    pub merges-built : second ≡ false → (r : Marked)
+        → Built 0 r (through 16 (childrenOf (stepsIn p) 0) true 0 (childrenOf (stepsIn q) 0) nothing) → IsMerge r (merge (patternOf p) (patternOf q))
     unfolding merge buildingOf buildingAt
     merges-built u r h =
         let e = built-merge u in

@@ -111,6 +111,10 @@ through-across own w (step x l vs later) child b =
 unfoldable pub restWalks : Meeting → List Step → ℕ → ℕ → Building → Building
 restWalks pair ss w u b = scanFrom pair w (suc u) (drop u ss) b
 
+-- what the step at place u makes
+abbrev pub stepMakes : Meeting → Pattern → ℕ → ℕ → Building → Building
+stepMakes pair p w u b = pair (nearChild w (stepIn p u)) (stepAt (stepsIn p) (u + 1) .label) (childrenOf (stepsIn p) (u + 1)) b
+
 module _ (p : Pattern) (sound : SoundPattern p) (pair : Meeting) (w : ℕ) where
   pub walk-starts : (b : Building) → w ≤ p .count → restWalks pair (stepsIn p) w w b ≡ across pair true (childrenOf (stepsIn p) w) b
   unfolding restWalks childrenOf childrenFrom
@@ -119,7 +123,7 @@ module _ (p : Pattern) (sound : SoundPattern p) (pair : Meeting) (w : ℕ) where
   module _ (u : ℕ) (b whole : Building) where
     -- a step of the block
     pub walk-step : u < p .count → w ≤ stepIn p u .parent → restWalks pair (stepsIn p) w u b ≡ whole
-        → restWalks pair (stepsIn p) w (u + 1) (pair (nearChild w (stepIn p u)) (stepAt (stepsIn p) (u + 1) .label) (childrenOf (stepsIn p) (u + 1)) b) ≡ whole
+        → restWalks pair (stepsIn p) w (u + 1) (stepMakes pair p w u b) ≡ whole
     unfolding restWalks scanFrom pick childrenOf childrenFrom
     walk-step h l i =
         rw (add-one u, step-at p sound u h) (sym (rw (steps-from p sound u h, le-ltb (stepIn p u .parent) w l)) ∙ i)

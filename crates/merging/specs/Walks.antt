@@ -3,6 +3,7 @@ use Prim.Native.Nat.{ℕ, _+_, _≤_, _<_}
 use mathlib.Core.Path.{_≡_, sym, _∙_, ap}
 use mathlib.Core.Bool.{Bool, true, false, _&&_}
 use mathlib.Core.List.{List}
+use native.Mathlib.Omega.{arith}
 use Rattle.meaning.specs.Forest.{Forest, none}
 use Rattle.meaning.specs.Covering.{stepAt}
 use Rattle.meaning.specs.Merging.{Building, nothing, meet, meetAt, through}
@@ -10,13 +11,14 @@ use Rattle.meaning.specs.declared.Step.{Step}
 use Rattle.shapes.specs.Shapes.{patternOf, stepsIn, SoundPattern}
 use Rattle.shapes.specs.declared.Pattern.{Pattern}
 use Rattle.shapes.specs.Steps.{stepIn}
+use Rattle.shapes.specs.Holding.{holds-none}
 use Rattle.laws.specs.Children.{childrenOf}
 use Rattle.offering.specs.declared.Marked.{Marked}
 use Rattle.offering.specs.Branches.{branchesOf, buildingAt}
 use Rattle.offering.specs.Offers.{buildingOf, Built, bodyIn, IsBody}
 use Rattle.offering.specs.Candidates.{body-in}
-use Rattle.merging.specs.Scanning.{Meeting, nearChild, meetAll, through-across, restWalks, walk-starts, walk-step}
-use Rattle.merging.specs.Bodies.{bodyFor, meets}
+use Rattle.merging.specs.Scanning.{Meeting, nearChild, meetAll, through-across, restWalks, stepMakes, walk-starts, walk-step, walk-ends, walk-done}
+use Rattle.merging.specs.Bodies.{bodyFor}
 
 -- what step v, near child or not, makes with a step w'
 unfoldable pub pairOf : ℕ → Bool → List Step → ℕ → Meeting
@@ -26,38 +28,74 @@ pairOf own direct a v = meetAt 16 own direct (stepAt a v .label) (childrenOf a v
 unfoldable pub acrossOf : ℕ → Bool → List Step → ℕ → Forest → Building → Building
 acrossOf own direct a v w b = meetAll own w direct (stepAt a v .label) (childrenOf a v) b
 
-module _ (q : Pattern) (sound : SoundPattern q) (own : ℕ) (direct : Bool) (a : List Step) (v w : ℕ) where
-  pub across-starts : (b : Building) → w ≤ q .count → restWalks (pairOf own direct a v) (stepsIn q) w w b ≡ acrossOf own direct a v (childrenOf (stepsIn q) w) b
+-- a loop over the steps below v has come to place k with b built: what is left builds what all of it builds
+pub record Walking (p : Pattern) (pair : Meeting) (v k own : ℕ) (b : Marked) (whole : Building) : Type 0 where
+  pub from : v ≤ k
+  pub upto : k ≤ p .count
+  pub sound : SoundPattern (b .pattern)
+  pub few : own + b .pattern .count ≤ 16
+  pub rest : restWalks pair (stepsIn p) v k (buildingOf b) ≡ whole
+
+-- ---- one law for each way through such a loop
+module _ {p : Pattern} {pair : Meeting} {v k own : ℕ} {b : Marked} {whole : Building} (sound : SoundPattern p) (i : Walking p pair v k own b whole) where
+  -- a step below v
+  pub walks-on : k < p .count → v ≤ stepIn p k .parent → (r : Marked) → Built own r (stepMakes pair p v k (buildingOf b)) → Walking p pair v (k + 1) own r whole
+  walks-on h l r built = record {
+    from = omega arith;
+    upto = omega arith;
+    sound = built .sound;
+    few = built .few;
+    rest = ap (restWalks pair (stepsIn p) v (k + 1)) (built .is) ∙ walk-step p sound pair v k (buildingOf b) whole h l (i .rest);
+  }
+
+  -- a step that is not below v
+  pub walks-out : k < p .count → stepIn p k .parent < v → Built own b whole
+  walks-out h l = record { sound = i .sound; few = i .few; is = walk-ends p sound pair v k (buildingOf b) whole h l (i .rest) }
+
+  -- no step is left
+  pub walks-through : p .count ≤ k → Built own b whole
+  walks-through h = record { sound = i .sound; few = i .few; is = walk-done p sound pair v k (buildingOf b) whole h (i .rest) }
+
+-- ---- step v with the steps below w
+module _ (q : Pattern) (own : ℕ) (direct : Bool) (a : List Step) (v w : ℕ) where
+  pub across-starts : SoundPattern q → (b : Marked) → SoundPattern (b .pattern) → own + b .pattern .count ≤ 16 → w ≤ q .count
+      → Walking q (pairOf own direct a v) w w own b (acrossOf own direct a v (childrenOf (stepsIn q) w) (buildingOf b))
   unfolding pairOf acrossOf meetAll
-  across-starts b h = walk-starts q sound (pairOf own direct a v) w b h
+  across-starts sound b built few h = record {
+    from = omega arith;
+    upto = h;
+    sound = built;
+    few = few;
+    rest = walk-starts q sound (pairOf own direct a v) w (buildingOf b) h;
+  }
 
-  pub across-step : (u : ℕ) (b body r : Marked) (nearW both : Bool) (whole : Building) → u < q .count → w ≤ stepIn q u .parent → IsBody body (bodyFor a (stepsIn q) v (u + 1))
+  -- the body of the pair, offered, is what the step at place u makes
+  pub across-step : (u : ℕ) (b body r : Marked) (nearW both : Bool) → IsBody body (bodyFor a (stepsIn q) v (u + 1))
       → nearW ≡ nearChild w (stepIn q u) → both ≡ (direct && nearW) → Built own r (meet 16 own both (bodyIn body) (buildingOf b))
-      → restWalks (pairOf own direct a v) (stepsIn q) w u (buildingOf b) ≡ whole → restWalks (pairOf own direct a v) (stepsIn q) w (u + 1) (buildingOf r) ≡ whole
-  unfolding pairOf
-  across-step u b body r nearW both whole h l is n e built i =
-      let same : buildingOf r ≡ pairOf own direct a v (nearChild w (stepIn q u)) (stepAt (stepsIn q) (u + 1) .label) (childrenOf (stepsIn q) (u + 1)) (buildingOf b) =
-      built .is
-      ∙ ap (λ (x : Bool). meet 16 own x (bodyIn body) (buildingOf b)) (e ∙ ap (λ (x : Bool). direct && x) n)
-      ∙ ap (λ x. meet 16 own (direct && nearChild w (stepIn q u)) x (buildingOf b)) (body-in body _ is)
-      ∙ meets a (stepsIn q) v (u + 1) own direct (nearChild w (stepIn q u)) (buildingOf b) in
-      ap (restWalks (pairOf own direct a v) (stepsIn q) w (u + 1)) same ∙ walk-step q sound (pairOf own direct a v) w u (buildingOf b) whole h l i
+      → Built own r (stepMakes (pairOf own direct a v) q w u (buildingOf b))
+  unfolding pairOf meetAt bodyFor
+  across-step u b body r nearW both is n e built = rw (e, n, body-in body _ is) at built
 
--- the start of what is built
-pub builds-nothing : (r : Pattern) → (patternOf r ≡ none) × SoundPattern r → buildingOf (record { pattern = r; clipped = false }) ≡ nothing
-unfolding buildingOf buildingAt branchesOf nothing
-builds-nothing r h = ap (λ (f : Forest). buildingAt f false) (h .0)
+-- ---- the steps below v, each with all below w
+module _ (p : Pattern) (own : ℕ) (w : Forest) (v : ℕ) where
+  pub through-starts : SoundPattern p → (r : Pattern) → (patternOf r ≡ none) × SoundPattern r → own ≤ 1 → v ≤ p .count
+      → Walking p (meetAll own w) v v own (record { pattern = r; clipped = false }) (through 16 (childrenOf (stepsIn p) v) true own w nothing)
+  unfolding buildingOf buildingAt branchesOf nothing
+  through-starts sound r h l k =
+      let empty : buildingOf (record { pattern = r; clipped = false }) ≡ nothing = ap (λ (f : Forest). buildingAt f false) (h .0) in
+      record {
+        from = omega arith;
+        upto = k;
+        sound = h .1;
+        few = omega (arith, holds-none r h .0);
+        rest = ap (restWalks (meetAll own w) (stepsIn p) v v) empty
+            ∙ walk-starts p sound (meetAll own w) v nothing k
+            ∙ sym (through-across own w (childrenOf (stepsIn p) v) true nothing);
+      }
 
-module _ (p : Pattern) (sound : SoundPattern p) (own : ℕ) (w : Forest) (v : ℕ) where
-  pub through-starts : (b : Marked) → v ≤ p .count → buildingOf b ≡ nothing → restWalks (meetAll own w) (stepsIn p) v v (buildingOf b) ≡ through 16 (childrenOf (stepsIn p) v) true own w nothing
-  through-starts b h e =
-      ap (restWalks (meetAll own w) (stepsIn p) v v) e ∙ walk-starts p sound (meetAll own w) v nothing h ∙ sym (through-across own w (childrenOf (stepsIn p) v) true nothing)
-
-  pub through-step : (k : ℕ) (b r : Marked) (direct : Bool) (whole : Building) → k < p .count → v ≤ stepIn p k .parent → direct ≡ nearChild v (stepIn p k)
+  -- step v of p across all below w is what the step at place k makes
+  pub through-step : (k : ℕ) (b r : Marked) (direct : Bool) → direct ≡ nearChild v (stepIn p k)
       → Built own r (acrossOf own direct (stepsIn p) (k + 1) w (buildingOf b))
-      → restWalks (meetAll own w) (stepsIn p) v k (buildingOf b) ≡ whole → restWalks (meetAll own w) (stepsIn p) v (k + 1) (buildingOf r) ≡ whole
+      → Built own r (stepMakes (meetAll own w) p v k (buildingOf b))
   unfolding acrossOf
-  through-step k b r direct whole h l e built i =
-      let same : buildingOf r ≡ meetAll own w (nearChild v (stepIn p k)) (stepAt (stepsIn p) (k + 1) .label) (childrenOf (stepsIn p) (k + 1)) (buildingOf b) =
-      built .is ∙ ap (λ (x : Bool). meetAll own w x (stepAt (stepsIn p) (k + 1) .label) (childrenOf (stepsIn p) (k + 1)) (buildingOf b)) e in
-      ap (restWalks (meetAll own w) (stepsIn p) v (k + 1)) same ∙ walk-step p sound (meetAll own w) v k (buildingOf b) whole h l i
+  through-step k b r direct e built = rw e at built

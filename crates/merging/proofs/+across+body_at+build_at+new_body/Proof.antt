@@ -1,24 +1,23 @@
 -- The proof of the cycle of calls {across, body_at, build_at, new_body}. The measures fall with the steps of p that are left.
-use mathlib.Core.Path.{_≡_, _∙_, ap, subst}
+use Prim.Native.Nat.{ℕ, _+_, _*_, _-_, _<_}
+use mathlib.Core.Path.{_∙_, subst}
 use mathlib.Core.Bool.{true}
 use native.Mathlib.Omega.{arith}
 use borrow.Author.Needs.{needs}
-use Rattle.meaning.specs.Covering.{stepAt}
-use Rattle.meaning.specs.Merging.{Body, nothing, commonLabel, through}
-use Rattle.shapes.specs.Shapes.{no-steps-stand, patternOf, stepsIn, SoundPattern}
-use Rattle.shapes.specs.Steps.{stepIn, step-number}
-use Rattle.shapes.specs.Holding.{holds-none}
+use borrow.Fn.Kinds.{In, Out}
+use borrow.Fn.PlainCycle.{Measures, is, falls, and}
+use Rattle.meaning.specs.Merging.{nothing, commonLabel, through}
 use Rattle.laws.specs.Children.{childrenOf}
-use Rattle.covering.specs.Notes.{cellOf}
+use Rattle.shapes.specs.Shapes.{no-steps-stand, stepsIn}
+use Rattle.shapes.specs.Steps.{stepIn, step-number}
+use Rattle.covering.specs.Notes.{PairOfSteps, cellOf}
 use Rattle.offering.specs.Offers.{buildingOf, IsBody}
 use Rattle.offering.specs.Candidates.{body-of-itself}
-use Rattle.merging.specs.Scanning.{meetAll, restWalks, walk-ends, walk-done}
 use Rattle.packing.specs.Packing.{unpacked, kept-body}
-use Rattle.merging.specs.Bodies.{takes-first, takes-second, makes, Slot, Known, body-kept}
-use Rattle.merging.specs.Walks.{pairOf, acrossOf, across-starts, across-step, builds-nothing, through-starts, through-step}
-use Prim.Native.Nat.{ℕ, _+_, _*_, _-_, _≤_, _<_}
-use borrow.Fn.Kinds.{In}
-use borrow.Fn.PlainCycle.{Measures, is, falls, and}
+use Rattle.merging.specs.Scanning.{meetAll}
+use Rattle.merging.specs.Bodies.{takes-first, takes-second, makes, Known, body-found, body-kept}
+use Rattle.merging.specs.Walks.{pairOf, acrossOf, across-starts, across-step, through-starts, through-step}
+use Rattle.merging.specs.Walks.{Walking, walks-on, walks-out, walks-through}
 use Rattle.merging.proofs.across.Reads as across
 use Rattle.merging.proofs.across.Kinds as across-kinds
 use Rattle.merging.proofs.+across+body_at+build_at+new_body.Lts-across as across-lts
@@ -31,16 +30,16 @@ use Rattle.merging.proofs.+across+body_at+build_at+new_body.Lts-build_a
 use Rattle.merging.proofs.new_body.Reads as new-body
 use Rattle.merging.proofs.new_body.Kinds as new-body-kinds
 use Rattle.merging.proofs.+across+body_at+build_at+new_body.Lts-new_body as new-body-lts
-use Rattle.covering.proofs.lies_at.Reads as lies-at-reads
-use Rattle.merging.proofs.both.Reads as both-reads
-use Rattle.merging.proofs.common_label.Reads as common-label-reads
-use Rattle.merging.proofs.near_child.Reads as near-child-reads
-use Rattle.packing.proofs.pack.Reads as pack-reads
-use Rattle.merging.proofs.taken.Reads as taken-reads
-use Rattle.packing.proofs.unpack.Reads as unpack-reads
-use Rattle.offering.proofs.made.Reads as made-reads
-use Rattle.offering.proofs.meet.Reads as meet-reads
-use Rattle.shapes.proofs.no_steps.Reads as no-steps-reads
+use Rattle.covering.proofs.lies_at.Reads as lies-at
+use Rattle.merging.proofs.both.Reads as both
+use Rattle.merging.proofs.common_label.Reads as common-label
+use Rattle.merging.proofs.near_child.Reads as near-child
+use Rattle.packing.proofs.pack.Reads as pack
+use Rattle.merging.proofs.taken.Reads as taken
+use Rattle.packing.proofs.unpack.Reads as unpack
+use Rattle.offering.proofs.made.Reads as made
+use Rattle.offering.proofs.meet.Reads as meet
+use Rattle.shapes.proofs.no_steps.Reads as no-steps
 use Rattle.merging.proofs.+across+body_at+build_at+new_body.{statement}
 use Rattle.merging.proofs.+across+body_at+build_at+new_body.Tie.{close}
 
@@ -56,6 +55,7 @@ abbrev μ-build-at : Measures 3 build-at-kinds.ps ℕ
 abbrev μ-new-body : Measures 3 new-body-kinds.ps ℕ
 μ-new-body κs a = 4 * (a .0 .count - a .1 .1 .0) + 1
 
+-- what each is given at the measure t, and what a call of it asks below t
 abbrev across-at : ℕ → In 3 across-kinds.ps
 across-at t = and 3 across-kinds.ps (is 3 across-kinds.ps μ-across t) across.Pre
 
@@ -72,903 +72,251 @@ abbrev build-at-at : ℕ → In 3 build-at-kinds.ps
 build-at-at t = and 3 build-at-kinds.ps (is 3 build-at-kinds.ps μ-build-at t) build-at.Pre
 
 abbrev build-at-below : ℕ → In 3 build-at-kinds.ps
-build-at-below t =
-    and 3 build-at-kinds.ps (falls 3 build-at-kinds.ps _<_ μ-build-at t) build-at.Pre
+build-at-below t = and 3 build-at-kinds.ps (falls 3 build-at-kinds.ps _<_ μ-build-at t) build-at.Pre
 
 abbrev new-body-at : ℕ → In 3 new-body-kinds.ps
 new-body-at t = and 3 new-body-kinds.ps (is 3 new-body-kinds.ps μ-new-body t) new-body.Pre
 
 abbrev new-body-below : ℕ → In 3 new-body-kinds.ps
-new-body-below t =
-    and 3 new-body-kinds.ps (falls 3 new-body-kinds.ps _<_ μ-new-body t) new-body.Pre
+new-body-below t = and 3 new-body-kinds.ps (falls 3 new-body-kinds.ps _<_ μ-new-body t) new-body.Pre
 
+-- ---- across: step v meets the steps below w from place u on
 abbrev across-Inv-loop : across-lts.InvT-loop
 across-Inv-loop p v direct w own memo₀ there₀ back₀ q b₀ u₀ memo there back b u =
-    Known p q memo there back × (w ≤ u) × (u ≤ q .count) × SoundPattern (b .pattern) × (own + b .pattern .count ≤ 16)
-    × (restWalks (pairOf own direct (stepsIn p) v) (stepsIn q) w u (buildingOf b) ≡ acrossOf own direct (stepsIn p) v (childrenOf (stepsIn q) w) (buildingOf b₀))
+    Known p q memo there back
+    × Walking q (pairOf own direct (stepsIn p) v) w u own b (acrossOf own direct (stepsIn p) v (childrenOf (stepsIn q) w) (buildingOf b₀))
 
 abbrev across-μ-loop : across-lts.MeasureT-loop
 across-μ-loop p v direct w own memo₀ there₀ back₀ q b₀ u₀ memo there back b u = q .count - u
 
-across-loop-holds : (t : ℕ) → across-lts.Need-loop-holds (
-  body-at-below t,
-  body-at.Post,
-  near-child-reads.Asked,
-  near-child-reads.Learnt,
-  both-reads.Asked,
-  both-reads.Learnt,
-  meet-reads.Asked,
-  meet-reads.Learnt,
-) (across-at t) across.Post across-Inv-loop across-μ-loop
+-- what its calls ask and ensure, and a need of it given those
+abbrev across-calls : ℕ → across-lts.Claims
+across-calls t = (body-at-below t, body-at.Post, near-child.Asked, near-child.Learnt, both.Asked, both.Learnt, meet.Asked, meet.Learnt)
+
+abbrev Across :
+    (across-lts.Claims → In 3 across-kinds.ps → Out 3 across-kinds.ps across-kinds.r → across-lts.InvT-loop → across-lts.MeasureT-loop → Type 0) → Type 0
+Across need = (t : ℕ) → need (across-calls t) (across-at t) across.Post across-Inv-loop across-μ-loop
+
+across-loop-holds : Across across-lts.Need-loop-holds
 across-loop-holds t c =
-    let a = c .args in
     let h = c .pre .1 in
-    (h .0, omega arith, h .3, h .4, h .5, across-starts (a .t2) (h .0 .onto .second) (a .own) (a .direct) (stepsIn (a .p)) (a .v) (a .w) (buildingOf (a .built)) (h .3))
+    (h .0, across-starts _ _ _ _ _ _ (h .0 .onto .second) _ (h .4) (h .5) (h .3))
 
-across-mul-t : (t : ℕ) → across-lts.Need-mul-t (
-  body-at-below t,
-  body-at.Post,
-  near-child-reads.Asked,
-  near-child-reads.Learnt,
-  both-reads.Asked,
-  both-reads.Learnt,
-  meet-reads.Asked,
-  meet-reads.Learnt,
-) (across-at t) across.Post across-Inv-loop across-μ-loop
-across-mul-t t c = omega arith
-
-across-element-copy-out-t : (t : ℕ) → across-lts.Need-element-copy-out-t (
-  body-at-below t,
-  body-at.Post,
-  near-child-reads.Asked,
-  near-child-reads.Learnt,
-  both-reads.Asked,
-  both-reads.Learnt,
-  meet-reads.Asked,
-  meet-reads.Learnt,
-) (across-at t) across.Post across-Inv-loop across-μ-loop
-across-element-copy-out-t t c = omega arith
-
-across-cast-if1 : (t : ℕ) → across-lts.Need-cast-if1 (
-  body-at-below t,
-  body-at.Post,
-  near-child-reads.Asked,
-  near-child-reads.Learnt,
-  both-reads.Asked,
-  both-reads.Learnt,
-  meet-reads.Asked,
-  meet-reads.Learnt,
-) (across-at t) across.Post across-Inv-loop across-μ-loop
-across-cast-if1 t c = search needs
-
-across-returns : (t : ℕ) → across-lts.Need-returns (
-  body-at-below t,
-  body-at.Post,
-  near-child-reads.Asked,
-  near-child-reads.Learnt,
-  both-reads.Asked,
-  both-reads.Learnt,
-  meet-reads.Asked,
-  meet-reads.Learnt,
-) (across-at t) across.Post across-Inv-loop across-μ-loop
+across-returns : Across across-lts.Need-returns
 unfolding stepIn
 across-returns t c =
-    let a = c .before .before .before .before .before .args in
-    let l = c .before .before .before .before .loop in
-    let i = l .inv in
-    (record { sound = i .3; few = i .4; is = walk-ends (a .t2) (i .0 .onto .second) (pairOf (a .own) (a .direct) (stepsIn (a .p)) (a .v)) (a .w) (l .u) (buildingOf (l .b)) _ (omega arith) (c .if1 .taken) (i .5) }, i .0)
+    let i = c .before .before .before .before .loop .inv in
+    (walks-out (i .0 .onto .second) (i .1) (omega arith) (c .if1 .taken), i .0)
 
-across-add-u : (t : ℕ) → across-lts.Need-add-u (
-  body-at-below t,
-  body-at.Post,
-  near-child-reads.Asked,
-  near-child-reads.Learnt,
-  both-reads.Asked,
-  both-reads.Learnt,
-  meet-reads.Asked,
-  meet-reads.Learnt,
-) (across-at t) across.Post across-Inv-loop across-μ-loop
-across-add-u t c = omega arith
-
-across-body-at-requires : (t : ℕ) → across-lts.Need-body-at-requires (
-  body-at-below t,
-  body-at.Post,
-  near-child-reads.Asked,
-  near-child-reads.Learnt,
-  both-reads.Asked,
-  both-reads.Learnt,
-  meet-reads.Asked,
-  meet-reads.Learnt,
-) (across-at t) across.Post across-Inv-loop across-μ-loop
-across-body-at-requires t c κs =
-    let i = c .before .before .before .before .before .before .before .loop .inv in
-    (omega arith, (i .0, omega arith, omega arith, omega arith, omega arith))
-
-across-near-child-requires : (t : ℕ) → across-lts.Need-near-child-requires (
-  body-at-below t,
-  body-at.Post,
-  near-child-reads.Asked,
-  near-child-reads.Learnt,
-  both-reads.Asked,
-  both-reads.Learnt,
-  meet-reads.Asked,
-  meet-reads.Learnt,
-) (across-at t) across.Post across-Inv-loop across-μ-loop
-across-near-child-requires t c κs = tt
-
-across-both-requires : (t : ℕ) → across-lts.Need-both-requires (
-  body-at-below t,
-  body-at.Post,
-  near-child-reads.Asked,
-  near-child-reads.Learnt,
-  both-reads.Asked,
-  both-reads.Learnt,
-  meet-reads.Asked,
-  meet-reads.Learnt,
-) (across-at t) across.Post across-Inv-loop across-μ-loop
-across-both-requires t c κs = tt
-
-across-meet-requires : (t : ℕ) → across-lts.Need-meet-requires (
-  body-at-below t,
-  body-at.Post,
-  near-child-reads.Asked,
-  near-child-reads.Learnt,
-  both-reads.Asked,
-  both-reads.Learnt,
-  meet-reads.Asked,
-  meet-reads.Learnt,
-) (across-at t) across.Post across-Inv-loop across-μ-loop
+across-meet-requires : Across across-lts.Need-meet-requires
 across-meet-requires t c κs =
-    let i = c .before .before .before .before .before .before .before .before .before .before .loop .inv in
-    (i .3, i .4, body-of-itself _ _ (c .before .before .body-at .ensures .0))
+    let i = c .before .before .before .before .before .before .before .before .before .before .loop .inv .1 in
+    (i .sound, i .few, body-of-itself _ _ (c .before .before .body-at .ensures .0))
 
-across-loop-less : (t : ℕ) → across-lts.Need-loop-less (
-  body-at-below t,
-  body-at.Post,
-  near-child-reads.Asked,
-  near-child-reads.Learnt,
-  both-reads.Asked,
-  both-reads.Learnt,
-  meet-reads.Asked,
-  meet-reads.Learnt,
-) (across-at t) across.Post across-Inv-loop across-μ-loop
-across-loop-less t c = omega arith
-
-across-loop-again : (t : ℕ) → across-lts.Need-loop-again (
-  body-at-below t,
-  body-at.Post,
-  near-child-reads.Asked,
-  near-child-reads.Learnt,
-  both-reads.Asked,
-  both-reads.Learnt,
-  meet-reads.Asked,
-  meet-reads.Learnt,
-) (across-at t) across.Post across-Inv-loop across-μ-loop
+across-loop-again : Across across-lts.Need-loop-again
 unfolding stepIn
 across-loop-again t c =
-    let a = c .before .before .before .before .before .before .before .before .before .before .before .before .args in
-    let l = c .before .before .before .before .before .before .before .before .before .before .before .loop in
-    let i = l .inv in
-    let more : l .u < a .t2 .count = omega (arith, c .before .before .before .before .before .before .before .before .before .before .loop-test) in
-    let body = c .before .before .before .body-at in (
-      body .ensures .1,
-      omega arith,
-      omega arith,
-      c .meet .ensures .sound,
-      c .meet .ensures .few,
-      across-step (a .t2) (i .0 .onto .second) (a .own) (a .direct) (stepsIn (a .p)) (a .v) (a .w) (l .u) (l .b) (body .result) (c .meet .result) (c .before .before .near-child .result) (c .before .both .result) _
-          more (c .before .before .before .before .before .before .before .if1 .left) (body .ensures .0) (c .before .before .near-child .ensures) (c .before .both .ensures) (c .meet .ensures) (i .5),
-    )
+    let near = c .before .before in
+    let found = near .before in
+    let turn = found .before .before .before .before .before .before .before in
+    let l = turn .before .loop in
+    let a = turn .before .before .args in
+    let sound = l .inv .0 .onto .second in
+    let more : l .u < a .t2 .count = omega (arith, turn .loop-test) in
+    let made = across-step (a .t2) _ _ _ _ (a .w) (l .u) _ _ _ _ _ (found .body-at .ensures .0) (near .near-child .ensures)
+    (c .before .both .ensures) (c .meet .ensures) in
+    (found .body-at .ensures .1, walks-on sound (l .inv .1) more (found .before .before .before .before .if1 .left) (c .meet .result) made)
 
-across-returns-2 : (t : ℕ) → across-lts.Need-returns-2 (
-  body-at-below t,
-  body-at.Post,
-  near-child-reads.Asked,
-  near-child-reads.Learnt,
-  both-reads.Asked,
-  both-reads.Learnt,
-  meet-reads.Asked,
-  meet-reads.Learnt,
-) (across-at t) across.Post across-Inv-loop across-μ-loop
+across-returns-2 : Across across-lts.Need-returns-2
 across-returns-2 t c =
-    let a = c .before .before .args in
-    let l = c .before .loop in
-    let i = l .inv in
-    (record { sound = i .3; few = i .4; is = walk-done (a .t2) (i .0 .onto .second) (pairOf (a .own) (a .direct) (stepsIn (a .p)) (a .v)) (a .w) (l .u) (buildingOf (l .b)) _ (omega arith) (i .5) }, i .0)
+    let i = c .before .loop .inv in
+    (walks-through (i .0 .onto .second) (i .1) (omega arith), i .0)
 
-body-at-sub-cell : (t : ℕ) → body-at-lts.Need-sub-cell (
-  unpack-reads.Asked,
-  unpack-reads.Learnt,
-  new-body-below t,
-  new-body.Post,
-  pack-reads.Asked,
-  pack-reads.Learnt,
-) (body-at-at t) body-at.Post
-body-at-sub-cell t c = omega arith
+-- ---- body_at: what the table holds of the pair, or what is found now and put there
+abbrev body-at-calls : ℕ → body-at-lts.Claims
+body-at-calls t = (unpack.Asked, unpack.Learnt, new-body-below t, new-body.Post, pack.Asked, pack.Learnt)
 
-body-at-mul-cell : (t : ℕ) → body-at-lts.Need-mul-cell (
-  unpack-reads.Asked,
-  unpack-reads.Learnt,
-  new-body-below t,
-  new-body.Post,
-  pack-reads.Asked,
-  pack-reads.Learnt,
-) (body-at-at t) body-at.Post
-body-at-mul-cell t c = omega arith
+abbrev BodyAt : (body-at-lts.Claims → In 3 body-at-kinds.ps → Out 3 body-at-kinds.ps body-at-kinds.r → Type 0) → Type 0
+BodyAt need = (t : ℕ) → need (body-at-calls t) (body-at-at t) body-at.Post
 
-body-at-sub-cell-2 : (t : ℕ) → body-at-lts.Need-sub-cell-2 (
-  unpack-reads.Asked,
-  unpack-reads.Learnt,
-  new-body-below t,
-  new-body.Post,
-  pack-reads.Asked,
-  pack-reads.Learnt,
-) (body-at-at t) body-at.Post
-body-at-sub-cell-2 t c = omega arith
-
-body-at-add-cell : (t : ℕ) → body-at-lts.Need-add-cell (
-  unpack-reads.Asked,
-  unpack-reads.Learnt,
-  new-body-below t,
-  new-body.Post,
-  pack-reads.Asked,
-  pack-reads.Learnt,
-) (body-at-at t) body-at.Post
-body-at-add-cell t c = omega arith
-
-body-at-mul-slot : (t : ℕ) → body-at-lts.Need-mul-slot (
-  unpack-reads.Asked,
-  unpack-reads.Learnt,
-  new-body-below t,
-  new-body.Post,
-  pack-reads.Asked,
-  pack-reads.Learnt,
-) (body-at-at t) body-at.Post
-body-at-mul-slot t c = omega arith
-
-body-at-element-copy-out-slot : (t : ℕ) → body-at-lts.Need-element-copy-out-slot (
-  unpack-reads.Asked,
-  unpack-reads.Learnt,
-  new-body-below t,
-  new-body.Post,
-  pack-reads.Asked,
-  pack-reads.Learnt,
-) (body-at-at t) body-at.Post
-body-at-element-copy-out-slot t c = omega arith
-
-body-at-array-read-if1 : (t : ℕ) → body-at-lts.Need-array-read-if1 (
-  unpack-reads.Asked,
-  unpack-reads.Learnt,
-  new-body-below t,
-  new-body.Post,
-  pack-reads.Asked,
-  pack-reads.Learnt,
-) (body-at-at t) body-at.Post
-body-at-array-read-if1 t c = omega arith
-
-body-at-unpack-requires : (t : ℕ) → body-at-lts.Need-unpack-requires (
-  unpack-reads.Asked,
-  unpack-reads.Learnt,
-  new-body-below t,
-  new-body.Post,
-  pack-reads.Asked,
-  pack-reads.Learnt,
-) (body-at-at t) body-at.Post
-unfolding Slot cellOf
+body-at-unpack-requires : BodyAt body-at-lts.Need-unpack-requires
+unfolding cellOf
 body-at-unpack-requires t c κs =
     let s = c .before .before in
-    let h = s .pre .1 in
-    let k = h .0 .bodies .right (s .args .v) (s .args .w) (omega arith) (omega arith) (omega arith) (omega arith) (c .if1 .taken) in
-    k .few
+    let pair : PairOfSteps (s .args .v) (s .args .w) = omega arith in
+    body-found (s .args .v) (s .args .w) pair (s .pre .1 .0 .bodies) (c .if1 .taken) .few
 
-body-at-returns : (t : ℕ) → body-at-lts.Need-returns (
-  unpack-reads.Asked,
-  unpack-reads.Learnt,
-  new-body-below t,
-  new-body.Post,
-  pack-reads.Asked,
-  pack-reads.Learnt,
-) (body-at-at t) body-at.Post
-unfolding Slot cellOf
+body-at-returns : BodyAt body-at-lts.Need-returns
+unfolding cellOf
 body-at-returns t c =
     let s = c .before .before .before in
-    let h = s .pre .1 in
-    let k = h .0 .bodies .right (s .args .v) (s .args .w) (omega arith) (omega arith) (omega arith) (omega arith) (c .before .if1 .taken) in
-    (unpacked _ _ (c .unpack .result) k (c .unpack .ensures .0) (c .unpack .ensures .1), h .0)
+    let known = s .pre .1 .0 in
+    let pair : PairOfSteps (s .args .v) (s .args .w) = omega arith in
+    let packed = body-found (s .args .v) (s .args .w) pair (known .bodies) (c .before .if1 .taken) in
+    (unpacked _ _ (c .unpack .result) packed (c .unpack .ensures .0) (c .unpack .ensures .1), known)
 
-body-at-new-body-requires : (t : ℕ) → body-at-lts.Need-new-body-requires (
-  unpack-reads.Asked,
-  unpack-reads.Learnt,
-  new-body-below t,
-  new-body.Post,
-  pack-reads.Asked,
-  pack-reads.Learnt,
-) (body-at-at t) body-at.Post
-body-at-new-body-requires t c κs =
-    let h = c .before .before .before .before .before .pre .1 in
-    (omega arith, (h .0, h .1, h .2, h .3, h .4))
-
-body-at-pack-requires : (t : ℕ) → body-at-lts.Need-pack-requires (
-  unpack-reads.Asked,
-  unpack-reads.Learnt,
-  new-body-below t,
-  new-body.Post,
-  pack-reads.Asked,
-  pack-reads.Learnt,
-) (body-at-at t) body-at.Post
-body-at-pack-requires t c κs = c .new-body .ensures .0 .stands .sound
-
-body-at-mul-bytes : (t : ℕ) → body-at-lts.Need-mul-bytes (
-  unpack-reads.Asked,
-  unpack-reads.Learnt,
-  new-body-below t,
-  new-body.Post,
-  pack-reads.Asked,
-  pack-reads.Learnt,
-) (body-at-at t) body-at.Post
-body-at-mul-bytes t c = omega arith
-
-body-at-element-set-from-bytes : (t : ℕ) → body-at-lts.Need-element-set-from-bytes (
-  unpack-reads.Asked,
-  unpack-reads.Learnt,
-  new-body-below t,
-  new-body.Post,
-  pack-reads.Asked,
-  pack-reads.Learnt,
-) (body-at-at t) body-at.Post
-body-at-element-set-from-bytes t c = omega arith
-
-body-at-returns-2 : (t : ℕ) → body-at-lts.Need-returns-2 (
-  unpack-reads.Asked,
-  unpack-reads.Learnt,
-  new-body-below t,
-  new-body.Post,
-  pack-reads.Asked,
-  pack-reads.Learnt,
-) (body-at-at t) body-at.Post
+body-at-returns-2 : BodyAt body-at-lts.Need-returns-2
 unfolding cellOf
 body-at-returns-2 t c =
     let s = c .before .before .before .before .before .before .before in
-    let n = c .before .new-body in
-    let k = n .ensures .1 in (
-      n .ensures .0,
-      record {
-        bodies = body-kept (s .args .p) (s .args .q) (n .last .1 .1 .1 .1 .0) (s .args .v) (s .args .w) (c .pack .result) (k .bodies) (omega arith) (omega arith) (omega arith) (omega arith)
-            (kept-body (n .result) _ (c .pack .result) (n .ensures .0) (c .pack .ensures));
-        onto = k .onto;
-        from = k .from;
-      },
-    )
+    let pair : PairOfSteps (s .args .v) (s .args .w) = omega arith in
+    let found = c .before .new-body in
+    let is = found .ensures .0 in
+    let known = found .ensures .1 in
+    let packed = kept-body (found .result) _ (c .pack .result) is (c .pack .ensures) in
+    (is, record { bodies = body-kept (s .args .v) (s .args .w) pair (known .bodies) (c .pack .result) packed; onto = known .onto; from = known .from })
 
+-- ---- build_at: the steps below v from place k on meet all below w
 abbrev build-at-Inv-loop : build-at-lts.InvT-loop
 build-at-Inv-loop q v w own memo₀ there₀ back₀ p b₀ k₀ memo there back b k =
-    Known p q memo there back × (v ≤ k) × (k ≤ p .count) × SoundPattern (b .pattern) × (own + b .pattern .count ≤ 16)
-    × (restWalks (meetAll own (childrenOf (stepsIn q) w)) (stepsIn p) v k (buildingOf b) ≡ through 16 (childrenOf (stepsIn p) v) true own (childrenOf (stepsIn q) w) nothing)
+    Known p q memo there back
+    × Walking p (meetAll own (childrenOf (stepsIn q) w)) v k own b (through 16 (childrenOf (stepsIn p) v) true own (childrenOf (stepsIn q) w) nothing)
 
 abbrev build-at-μ-loop : build-at-lts.MeasureT-loop
 build-at-μ-loop q v w own memo₀ there₀ back₀ p b₀ k₀ memo there back b k = p .count - k
 
-build-at-no-steps-requires : (t : ℕ) → build-at-lts.Need-no-steps-requires (
-  no-steps-reads.Asked,
-  no-steps-reads.Learnt,
-  near-child-reads.Asked,
-  near-child-reads.Learnt,
-  across-below t,
-  across.Post,
-) (build-at-at t) build-at.Post build-at-Inv-loop build-at-μ-loop
-build-at-no-steps-requires t c κs = tt
+abbrev build-at-calls : ℕ → build-at-lts.Claims
+build-at-calls t = (no-steps.Asked, no-steps.Learnt, near-child.Asked, near-child.Learnt, across-below t, across.Post)
 
-build-at-loop-holds : (t : ℕ) → build-at-lts.Need-loop-holds (
-  no-steps-reads.Asked,
-  no-steps-reads.Learnt,
-  near-child-reads.Asked,
-  near-child-reads.Learnt,
-  across-below t,
-  across.Post,
-) (build-at-at t) build-at.Post build-at-Inv-loop build-at-μ-loop
+abbrev BuildAt :
+    (build-at-lts.Claims → In 3 build-at-kinds.ps → Out 3 build-at-kinds.ps build-at-kinds.r → build-at-lts.InvT-loop → build-at-lts.MeasureT-loop → Type 0)
+    → Type 0
+BuildAt need = (t : ℕ) → need (build-at-calls t) (build-at-at t) build-at.Post build-at-Inv-loop build-at-μ-loop
+
+build-at-loop-holds : BuildAt build-at-lts.Need-loop-holds
 build-at-loop-holds t c =
-    let a = c .before .args in
     let h = c .before .pre .1 in
-    let e = no-steps-stand _ (c .no-steps .ensures) in (
-      h .0,
-      omega arith,
-      h .1,
-      e .1,
-      omega (arith, holds-none (c .no-steps .result) e .0),
-      through-starts (a .t1) (h .0 .onto .first) (a .own) (childrenOf (stepsIn (a .q)) (a .w)) (a .v) _ (h .1) (builds-nothing (c .no-steps .result) e),
-    )
+    let none = no-steps-stand _ (c .no-steps .ensures) in
+    (h .0, through-starts _ _ _ _ (h .0 .onto .first) _ none (h .3) (h .1))
 
-build-at-mul-s : (t : ℕ) → build-at-lts.Need-mul-s (
-  no-steps-reads.Asked,
-  no-steps-reads.Learnt,
-  near-child-reads.Asked,
-  near-child-reads.Learnt,
-  across-below t,
-  across.Post,
-) (build-at-at t) build-at.Post build-at-Inv-loop build-at-μ-loop
-build-at-mul-s t c = omega arith
-
-build-at-element-copy-out-s : (t : ℕ) → build-at-lts.Need-element-copy-out-s (
-  no-steps-reads.Asked,
-  no-steps-reads.Learnt,
-  near-child-reads.Asked,
-  near-child-reads.Learnt,
-  across-below t,
-  across.Post,
-) (build-at-at t) build-at.Post build-at-Inv-loop build-at-μ-loop
-build-at-element-copy-out-s t c = omega arith
-
-build-at-cast-if1 : (t : ℕ) → build-at-lts.Need-cast-if1 (
-  no-steps-reads.Asked,
-  no-steps-reads.Learnt,
-  near-child-reads.Asked,
-  near-child-reads.Learnt,
-  across-below t,
-  across.Post,
-) (build-at-at t) build-at.Post build-at-Inv-loop build-at-μ-loop
-build-at-cast-if1 t c = search needs
-
-build-at-returns : (t : ℕ) → build-at-lts.Need-returns (
-  no-steps-reads.Asked,
-  no-steps-reads.Learnt,
-  near-child-reads.Asked,
-  near-child-reads.Learnt,
-  across-below t,
-  across.Post,
-) (build-at-at t) build-at.Post build-at-Inv-loop build-at-μ-loop
+build-at-returns : BuildAt build-at-lts.Need-returns
 unfolding stepIn
 build-at-returns t c =
-    let a = c .before .before .before .before .before .before .args in
-    let l = c .before .before .before .before .loop in
-    let i = l .inv in
-    (record { sound = i .3; few = i .4; is = walk-ends (a .t1) (i .0 .onto .first) (meetAll (a .own) (childrenOf (stepsIn (a .q)) (a .w))) (a .v) (l .k) (buildingOf (l .b)) _ (omega arith) (c .if1 .taken) (i .5) }, i .0)
+    let i = c .before .before .before .before .loop .inv in
+    (walks-out (i .0 .onto .first) (i .1) (omega arith) (c .if1 .taken), i .0)
 
-build-at-add-k : (t : ℕ) → build-at-lts.Need-add-k (
-  no-steps-reads.Asked,
-  no-steps-reads.Learnt,
-  near-child-reads.Asked,
-  near-child-reads.Learnt,
-  across-below t,
-  across.Post,
-) (build-at-at t) build-at.Post build-at-Inv-loop build-at-μ-loop
-build-at-add-k t c = omega arith
-
-build-at-near-child-requires : (t : ℕ) → build-at-lts.Need-near-child-requires (
-  no-steps-reads.Asked,
-  no-steps-reads.Learnt,
-  near-child-reads.Asked,
-  near-child-reads.Learnt,
-  across-below t,
-  across.Post,
-) (build-at-at t) build-at.Post build-at-Inv-loop build-at-μ-loop
-build-at-near-child-requires t c κs = tt
-
-build-at-across-requires : (t : ℕ) → build-at-lts.Need-across-requires (
-  no-steps-reads.Asked,
-  no-steps-reads.Learnt,
-  near-child-reads.Asked,
-  near-child-reads.Learnt,
-  across-below t,
-  across.Post,
-) (build-at-at t) build-at.Post build-at-Inv-loop build-at-μ-loop
+build-at-across-requires : BuildAt build-at-lts.Need-across-requires
 build-at-across-requires t c κs =
-    let i = c .before .before .before .before .before .before .before .before .loop .inv in
-    (omega arith, (i .0, omega arith, omega arith, c .before .before .before .before .before .before .before .before .before .before .pre .1 .2, i .3, i .4))
+    let l = c .before .before .before .before .before .before .before .before in
+    let i = l .loop .inv in
+    (omega arith, (i .0, omega arith, omega arith, l .before .before .pre .1 .2, i .1 .sound, i .1 .few))
 
-build-at-loop-less : (t : ℕ) → build-at-lts.Need-loop-less (
-  no-steps-reads.Asked,
-  no-steps-reads.Learnt,
-  near-child-reads.Asked,
-  near-child-reads.Learnt,
-  across-below t,
-  across.Post,
-) (build-at-at t) build-at.Post build-at-Inv-loop build-at-μ-loop
-build-at-loop-less t c = omega arith
-
-build-at-loop-again : (t : ℕ) → build-at-lts.Need-loop-again (
-  no-steps-reads.Asked,
-  no-steps-reads.Learnt,
-  near-child-reads.Asked,
-  near-child-reads.Learnt,
-  across-below t,
-  across.Post,
-) (build-at-at t) build-at.Post build-at-Inv-loop build-at-μ-loop
+build-at-loop-again : BuildAt build-at-lts.Need-loop-again
 unfolding stepIn
 build-at-loop-again t c =
-    let a = c .before .before .before .before .before .before .before .before .before .before .before .args in
-    let l = c .before .before .before .before .before .before .before .before .before .loop in
-    let i = l .inv in
-    let r = c .across .ensures in (
-      r .1,
-      omega arith,
-      omega arith,
-      r .0 .sound,
-      r .0 .few,
-      through-step (a .t1) (i .0 .onto .first) (a .own) (childrenOf (stepsIn (a .q)) (a .w)) (a .v) (l .k) (l .b) (c .across .result) (c .before .before .before .before .near-child .result) _
-          (omega arith) (c .before .before .before .before .before .if1 .left) (c .before .before .before .before .near-child .ensures) (r .0) (i .5),
-    )
+    let near = c .before .before .before .before in
+    let turn = near .before .before .before .before in
+    let l = turn .before .loop in
+    let a = turn .before .before .before .args in
+    let sound = l .inv .0 .onto .first in
+    let made = through-step (a .t1) _ _ (a .v) (l .k) _ _ _ (near .near-child .ensures) (c .across .ensures .0) in
+    (c .across .ensures .1, walks-on sound (l .inv .1) (omega arith) (near .before .if1 .left) (c .across .result) made)
 
-build-at-returns-2 : (t : ℕ) → build-at-lts.Need-returns-2 (
-  no-steps-reads.Asked,
-  no-steps-reads.Learnt,
-  near-child-reads.Asked,
-  near-child-reads.Learnt,
-  across-below t,
-  across.Post,
-) (build-at-at t) build-at.Post build-at-Inv-loop build-at-μ-loop
+build-at-returns-2 : BuildAt build-at-lts.Need-returns-2
 build-at-returns-2 t c =
-    let a = c .before .before .before .args in
-    let l = c .before .loop in
-    let i = l .inv in
-    (record { sound = i .3; few = i .4; is = walk-done (a .t1) (i .0 .onto .first) (meetAll (a .own) (childrenOf (stepsIn (a .q)) (a .w))) (a .v) (l .k) (buildingOf (l .b)) _ (omega arith) (i .5) }, i .0)
+    let i = c .before .loop .inv in
+    (walks-through (i .0 .onto .first) (i .1) (omega arith), i .0)
 
-new-body-lies-at-requires : (t : ℕ) → new-body-lts.Need-lies-at-requires (
-  lies-at-reads.Asked,
-  lies-at-reads.Learnt,
-  taken-reads.Asked,
-  taken-reads.Learnt,
+-- ---- new_body: that of v, that of w, or a new one
+abbrev new-body-calls : ℕ → new-body-lts.Claims
+new-body-calls t = (
+  lies-at.Asked,
+  lies-at.Learnt,
+  taken.Asked,
+  taken.Learnt,
   build-at-below t,
   build-at.Post,
-  common-label-reads.Asked,
-  common-label-reads.Learnt,
-  made-reads.Asked,
-  made-reads.Learnt,
-) (new-body-at t) new-body.Post
-new-body-lies-at-requires t c κs =
-    let h = c .before .pre .1 in
-    search (h .0 .onto, h .0 .from, h .1, h .2, h .3, h .4)
+  common-label.Asked,
+  common-label.Learnt,
+  made.Asked,
+  made.Learnt,
+)
 
-new-body-taken-requires : (t : ℕ) → new-body-lts.Need-taken-requires (
-  lies-at-reads.Asked,
-  lies-at-reads.Learnt,
-  taken-reads.Asked,
-  taken-reads.Learnt,
-  build-at-below t,
-  build-at.Post,
-  common-label-reads.Asked,
-  common-label-reads.Learnt,
-  made-reads.Asked,
-  made-reads.Learnt,
-) (new-body-at t) new-body.Post
-new-body-taken-requires t c κs =
-    let h = c .before .before .before .pre .1 in
-    search (h .0 .onto .first, h .0 .onto .second, h .1, h .2, h .3, h .4)
+abbrev NewBody : (new-body-lts.Claims → In 3 new-body-kinds.ps → Out 3 new-body-kinds.ps new-body-kinds.r → Type 0) → Type 0
+NewBody need = (t : ℕ) → need (new-body-calls t) (new-body-at t) new-body.Post
 
-new-body-returns : (t : ℕ) → new-body-lts.Need-returns (
-  lies-at-reads.Asked,
-  lies-at-reads.Learnt,
-  taken-reads.Asked,
-  taken-reads.Learnt,
-  build-at-below t,
-  build-at.Post,
-  common-label-reads.Asked,
-  common-label-reads.Learnt,
-  made-reads.Asked,
-  made-reads.Learnt,
-) (new-body-at t) new-body.Post
+new-body-returns : NewBody new-body-lts.Need-returns
 new-body-returns t c =
-    let s = c .before .before .before .before in
-    let a = s .args in
-    let h = s .pre .1 in
-    let r = c .before .before .lies-at in (
-      subst (IsBody (c .taken .result)) (takes-first (stepsIn (a .t1)) (stepsIn (a .t2)) (a .v) (a .w) (r .result) (r .ensures .0) (c .before .if1 .taken)) (c .taken .ensures),
-      record { bodies = h .0 .bodies; onto = r .ensures .1; from = h .0 .from },
-    )
+    let asked = c .before .before in
+    let s = asked .before .before in
+    let r = asked .lies-at in
+    let is = takes-first _ _ _ _ _ (r .ensures .0) (c .before .if1 .taken) in
+    let known = s .pre .1 .0 in
+    (subst (IsBody (c .taken .result)) is (c .taken .ensures), record { bodies = known .bodies; onto = r .ensures .1; from = known .from })
 
-new-body-lies-at-requires-2 : (t : ℕ) → new-body-lts.Need-lies-at-requires-2 (
-  lies-at-reads.Asked,
-  lies-at-reads.Learnt,
-  taken-reads.Asked,
-  taken-reads.Learnt,
-  build-at-below t,
-  build-at.Post,
-  common-label-reads.Asked,
-  common-label-reads.Learnt,
-  made-reads.Asked,
-  made-reads.Learnt,
-) (new-body-at t) new-body.Post
-new-body-lies-at-requires-2 t c κs =
-    let h = c .before .before .before .before .pre .1 in
-    search (h .0 .onto, h .0 .from, h .1, h .2, h .3, h .4)
-
-new-body-taken-requires-2 : (t : ℕ) → new-body-lts.Need-taken-requires-2 (
-  lies-at-reads.Asked,
-  lies-at-reads.Learnt,
-  taken-reads.Asked,
-  taken-reads.Learnt,
-  build-at-below t,
-  build-at.Post,
-  common-label-reads.Asked,
-  common-label-reads.Learnt,
-  made-reads.Asked,
-  made-reads.Learnt,
-) (new-body-at t) new-body.Post
-new-body-taken-requires-2 t c κs =
-    let h = c .before .before .before .before .before .before .pre .1 in
-    search (h .0 .onto .first, h .0 .onto .second, h .1, h .2, h .3, h .4)
-
-new-body-returns-2 : (t : ℕ) → new-body-lts.Need-returns-2 (
-  lies-at-reads.Asked,
-  lies-at-reads.Learnt,
-  taken-reads.Asked,
-  taken-reads.Learnt,
-  build-at-below t,
-  build-at.Post,
-  common-label-reads.Asked,
-  common-label-reads.Learnt,
-  made-reads.Asked,
-  made-reads.Learnt,
-) (new-body-at t) new-body.Post
+new-body-returns-2 : NewBody new-body-lts.Need-returns-2
 new-body-returns-2 t c =
-    let s = c .before .before .before .before .before .before .before in
-    let a = s .args in
-    let h = s .pre .1 in
-    let r = c .before .before .before .before .before .lies-at in
-    let z = c .before .before .lies-at2 in (
-      subst (IsBody (c .taken2 .result)) (takes-second (stepsIn (a .t1)) (stepsIn (a .t2)) (a .v) (a .w) (r .result) (z .result) (r .ensures .0) (c .before .before .before .before .if1 .left) (z .ensures .0) (c .before .if2 .taken)) (c .taken2 .ensures),
-      record { bodies = h .0 .bodies; onto = r .ensures .1; from = z .ensures .1 },
-    )
+    let asked = c .before .before in
+    let not-first = asked .before .before in
+    let s = not-first .before .before .before in
+    let r = not-first .before .lies-at in
+    let z = asked .lies-at2 in
+    let is = takes-second _ _ _ _ _ _ (r .ensures .0) (not-first .if1 .left) (z .ensures .0) (c .before .if2 .taken) in
+    (subst (IsBody (c .taken2 .result)) is (c .taken2 .ensures), record { bodies = s .pre .1 .0 .bodies; onto = r .ensures .1; from = z .ensures .1 })
 
-new-body-sub-s : (t : ℕ) → new-body-lts.Need-sub-s (
-  lies-at-reads.Asked,
-  lies-at-reads.Learnt,
-  taken-reads.Asked,
-  taken-reads.Learnt,
-  build-at-below t,
-  build-at.Post,
-  common-label-reads.Asked,
-  common-label-reads.Learnt,
-  made-reads.Asked,
-  made-reads.Learnt,
-) (new-body-at t) new-body.Post
-new-body-sub-s t c = omega arith
-
-new-body-mul-s : (t : ℕ) → new-body-lts.Need-mul-s (
-  lies-at-reads.Asked,
-  lies-at-reads.Learnt,
-  taken-reads.Asked,
-  taken-reads.Learnt,
-  build-at-below t,
-  build-at.Post,
-  common-label-reads.Asked,
-  common-label-reads.Learnt,
-  made-reads.Asked,
-  made-reads.Learnt,
-) (new-body-at t) new-body.Post
-new-body-mul-s t c = omega arith
-
-new-body-element-copy-out-s : (t : ℕ) → new-body-lts.Need-element-copy-out-s (
-  lies-at-reads.Asked,
-  lies-at-reads.Learnt,
-  taken-reads.Asked,
-  taken-reads.Learnt,
-  build-at-below t,
-  build-at.Post,
-  common-label-reads.Asked,
-  common-label-reads.Learnt,
-  made-reads.Asked,
-  made-reads.Learnt,
-) (new-body-at t) new-body.Post
-new-body-element-copy-out-s t c = omega arith
-
-new-body-sub-t : (t : ℕ) → new-body-lts.Need-sub-t (
-  lies-at-reads.Asked,
-  lies-at-reads.Learnt,
-  taken-reads.Asked,
-  taken-reads.Learnt,
-  build-at-below t,
-  build-at.Post,
-  common-label-reads.Asked,
-  common-label-reads.Learnt,
-  made-reads.Asked,
-  made-reads.Learnt,
-) (new-body-at t) new-body.Post
-new-body-sub-t t c = omega arith
-
-new-body-mul-t : (t : ℕ) → new-body-lts.Need-mul-t (
-  lies-at-reads.Asked,
-  lies-at-reads.Learnt,
-  taken-reads.Asked,
-  taken-reads.Learnt,
-  build-at-below t,
-  build-at.Post,
-  common-label-reads.Asked,
-  common-label-reads.Learnt,
-  made-reads.Asked,
-  made-reads.Learnt,
-) (new-body-at t) new-body.Post
-new-body-mul-t t c = omega arith
-
-new-body-element-copy-out-t : (t : ℕ) → new-body-lts.Need-element-copy-out-t (
-  lies-at-reads.Asked,
-  lies-at-reads.Learnt,
-  taken-reads.Asked,
-  taken-reads.Learnt,
-  build-at-below t,
-  build-at.Post,
-  common-label-reads.Asked,
-  common-label-reads.Learnt,
-  made-reads.Asked,
-  made-reads.Learnt,
-) (new-body-at t) new-body.Post
-new-body-element-copy-out-t t c = omega arith
-
-new-body-build-at-requires : (t : ℕ) → new-body-lts.Need-build-at-requires (
-  lies-at-reads.Asked,
-  lies-at-reads.Learnt,
-  taken-reads.Asked,
-  taken-reads.Learnt,
-  build-at-below t,
-  build-at.Post,
-  common-label-reads.Asked,
-  common-label-reads.Learnt,
-  made-reads.Asked,
-  made-reads.Learnt,
-) (new-body-at t) new-body.Post
+new-body-build-at-requires : NewBody new-body-lts.Need-build-at-requires
 new-body-build-at-requires t c κs =
-    let h = c .before .before .before .before .before .before .before .before .before .before .before .pre .1 in
-    (omega arith, (record { bodies = h .0 .bodies; onto = c .before .before .before .before .before .before .before .before .before .lies-at .ensures .1; from = c .before .before .before .before .before .before .lies-at2 .ensures .1 }, h .2, h .4, omega arith))
+    let asked = c .before .before .before .before .before .before in
+    let first = asked .before .before .before in
+    let h = first .before .before .pre .1 in
+    (omega arith, (record { bodies = h .0 .bodies; onto = first .lies-at .ensures .1; from = asked .lies-at2 .ensures .1 }, h .2, h .4, omega arith))
 
-new-body-common-label-requires : (t : ℕ) → new-body-lts.Need-common-label-requires (
-  lies-at-reads.Asked,
-  lies-at-reads.Learnt,
-  taken-reads.Asked,
-  taken-reads.Learnt,
-  build-at-below t,
-  build-at.Post,
-  common-label-reads.Asked,
-  common-label-reads.Learnt,
-  made-reads.Asked,
-  made-reads.Learnt,
-) (new-body-at t) new-body.Post
-new-body-common-label-requires t c κs = tt
-
-new-body-made-requires : (t : ℕ) → new-body-lts.Need-made-requires (
-  lies-at-reads.Asked,
-  lies-at-reads.Learnt,
-  taken-reads.Asked,
-  taken-reads.Learnt,
-  build-at-below t,
-  build-at.Post,
-  common-label-reads.Asked,
-  common-label-reads.Learnt,
-  made-reads.Asked,
-  made-reads.Learnt,
-) (new-body-at t) new-body.Post
-new-body-made-requires t c κs = (c .before .build-at .ensures .0 .sound, c .before .build-at .ensures .0 .few)
-
-new-body-returns-3 : (t : ℕ) → new-body-lts.Need-returns-3 (
-  lies-at-reads.Asked,
-  lies-at-reads.Learnt,
-  taken-reads.Asked,
-  taken-reads.Learnt,
-  build-at-below t,
-  build-at.Post,
-  common-label-reads.Asked,
-  common-label-reads.Learnt,
-  made-reads.Asked,
-  made-reads.Learnt,
-) (new-body-at t) new-body.Post
+new-body-returns-3 : NewBody new-body-lts.Need-returns-3
 unfolding stepIn
 new-body-returns-3 t c =
-    let s = c .before .before .before .before .before .before .before .before .before .before .before .before .before .before in
+    let b = c .before .before .build-at in
+    let not-second = c .before .before .before .before .before .before .before .before in
+    let not-first = not-second .before .before .before in
+    let s = not-first .before .before .before in
     let a = s .args in
     let h = s .pre .1 in
-    let r = c .before .before .before .before .before .before .before .before .before .before .before .before .lies-at in
-    let z = c .before .before .before .before .before .before .before .before .before .lies-at2 in
-    let b = c .before .before .build-at in
-    let e = makes (stepsIn (a .t1)) (stepsIn (a .t2)) (a .v) (a .w) (r .result) (z .result) (r .ensures .0) (c .before .before .before .before .before .before .before .before .before .before .before .if1 .left) (z .ensures .0) (c .before .before .before .before .before .before .before .before .if2 .left) (b .result) (b .ensures .0) in
+    let r = not-first .before .lies-at in
+    let z = not-second .before .lies-at2 in
     let x = step-number (a .t1) (h .0 .onto .first) (a .v) (h .1) (h .2) in
     let y = step-number (a .t2) (h .0 .onto .second) (a .w) (h .3) (h .4) in
-    let label-is : c .before .common-label .result ≡ commonLabel (stepAt (stepsIn (a .t1)) (a .v) .label) (stepAt (stepsIn (a .t2)) (a .w) .label) =
-    c .before .common-label .ensures ∙ λ i. commonLabel (x i .label) (y i .label) in
-    let same = ap {A = ℕ} {B = Body} (λ n. record { label = n; kids = patternOf (b .result .pattern); clipped = b .result .clipped }) label-is in
-    (subst (IsBody (c .made .result)) (same ∙ e) (c .made .ensures), b .ensures .1)
+    let label-is = c .before .common-label .ensures ∙ λ i. commonLabel (x i .label) (y i .label) in
+    let is = makes _ _ _ _ _ _ (r .ensures .0) (not-first .if1 .left) (z .ensures .0) (not-second .if2 .left) _ label-is _ (b .ensures .0) in
+    (subst (IsBody (c .made .result)) is (c .made .ensures), b .ensures .1)
 
+-- where no proof is named, an index or a sum is in range, or a measure falls
 pub +across+body-at+build-at+new-body-spec : {M : Type 1} → statement M
 +across+body-at+build-at+new-body-spec =
-    close μ-across μ-body-at μ-build-at μ-new-body (λ t. across-lts.spec (
-      body-at-below t,
-      body-at.Post,
-      near-child-reads.Asked,
-      near-child-reads.Learnt,
-      both-reads.Asked,
-      both-reads.Learnt,
-      meet-reads.Asked,
-      meet-reads.Learnt,
-    )
-    (across-at t)
-    across.Post
-    across-Inv-loop
-    across-μ-loop
-    (across-loop-holds t)
-    (across-mul-t t)
-    (across-element-copy-out-t t)
-    (across-cast-if1 t)
-    (across-returns t)
-    (across-add-u t)
-    (across-body-at-requires t)
-    (across-near-child-requires t)
-    (across-both-requires t)
+    close μ-across μ-body-at μ-build-at μ-new-body
+    (λ t. across-lts.spec (across-calls t) (across-at t) across.Post across-Inv-loop across-μ-loop
+    (across-loop-holds t) (λ c. omega arith) (λ c. omega arith) (λ c. search needs)
+    (across-returns t) (λ c. omega arith)
+    -- what body_at, near_child, both and meet ask
+    (λ c κs. (omega arith, (c .before .before .before .before .before .before .before .loop .inv .0, omega arith, omega arith, omega arith, omega arith)))
+    (λ c κs. tt)
+    (λ c κs. tt)
     (across-meet-requires t)
-    (across-loop-less t)
-    (across-loop-again t)
-    (across-returns-2 t))
-    (λ t. body-at-lts.spec (
-      unpack-reads.Asked,
-      unpack-reads.Learnt,
-      new-body-below t,
-      new-body.Post,
-      pack-reads.Asked,
-      pack-reads.Learnt,
-    )
-    (body-at-at t)
-    body-at.Post
-    (body-at-sub-cell t)
-    (body-at-mul-cell t)
-    (body-at-sub-cell-2 t)
-    (body-at-add-cell t)
-    (body-at-mul-slot t)
-    (body-at-element-copy-out-slot t)
-    (body-at-array-read-if1 t)
-    (body-at-unpack-requires t)
-    (body-at-returns t)
-    (body-at-new-body-requires t)
-    (body-at-pack-requires t)
-    (body-at-mul-bytes t)
-    (body-at-element-set-from-bytes t)
-    (body-at-returns-2 t))
-    (λ t. build-at-lts.spec (
-      no-steps-reads.Asked,
-      no-steps-reads.Learnt,
-      near-child-reads.Asked,
-      near-child-reads.Learnt,
-      across-below t,
-      across.Post,
-    )
-    (build-at-at t)
-    build-at.Post
-    build-at-Inv-loop
-    build-at-μ-loop
-    (build-at-no-steps-requires t)
-    (build-at-loop-holds t)
-    (build-at-mul-s t)
-    (build-at-element-copy-out-s t)
-    (build-at-cast-if1 t)
-    (build-at-returns t)
-    (build-at-add-k t)
-    (build-at-near-child-requires t)
+    (λ c. omega arith) (across-loop-again t) (across-returns-2 t))
+    (λ t. body-at-lts.spec (body-at-calls t) (body-at-at t) body-at.Post
+    (λ c. omega arith) (λ c. omega arith) (λ c. omega arith) (λ c. omega arith) (λ c. omega arith) (λ c. omega arith) (λ c. omega arith)
+    (body-at-unpack-requires t) (body-at-returns t)
+    -- what new_body and pack ask
+    (λ c κs. (omega arith, c .before .before .before .before .before .pre .1))
+    (λ c κs. c .new-body .ensures .0 .stands .sound)
+    (λ c. omega arith) (λ c. omega arith) (body-at-returns-2 t))
+    (λ t. build-at-lts.spec (build-at-calls t) (build-at-at t) build-at.Post build-at-Inv-loop build-at-μ-loop
+    (λ c κs. tt) (build-at-loop-holds t) (λ c. omega arith) (λ c. omega arith) (λ c. search needs)
+    (build-at-returns t) (λ c. omega arith)
+    -- what near_child and across ask
+    (λ c κs. tt)
     (build-at-across-requires t)
-    (build-at-loop-less t)
-    (build-at-loop-again t)
-    (build-at-returns-2 t))
-    λ t. new-body-lts.spec (
-      lies-at-reads.Asked,
-      lies-at-reads.Learnt,
-      taken-reads.Asked,
-      taken-reads.Learnt,
-      build-at-below t,
-      build-at.Post,
-      common-label-reads.Asked,
-      common-label-reads.Learnt,
-      made-reads.Asked,
-      made-reads.Learnt,
-    )
-    (new-body-at t)
-    new-body.Post
-    (new-body-lies-at-requires t)
-    (new-body-taken-requires t)
+    (λ c. omega arith) (build-at-loop-again t) (build-at-returns-2 t))
+    λ t. new-body-lts.spec (new-body-calls t) (new-body-at t) new-body.Post
+    -- what lies_at and taken ask, for v at w; the search finds the notes and bounds of the pattern that is asked first
+    (λ c κs. let h = c .before .pre .1 in search (h .0 .onto, h .0 .from, h .1, h .2, h .3, h .4))
+    (λ c κs. let h = c .before .before .before .pre .1 in search (h .0 .onto .first, h .0 .onto .second, h .1, h .2, h .3, h .4))
     (new-body-returns t)
-    (new-body-lies-at-requires-2 t)
-    (new-body-taken-requires-2 t)
+    -- and for w at v
+    (λ c κs. let h = c .before .before .before .before .pre .1 in search (h .0 .onto, h .0 .from, h .1, h .2, h .3, h .4))
+    (λ c κs. let h = c .before .before .before .before .before .before .pre .1 in search (h .0 .onto .first, h .0 .onto .second, h .1, h .2, h .3, h .4))
     (new-body-returns-2 t)
-    (new-body-sub-s t)
-    (new-body-mul-s t)
-    (new-body-element-copy-out-s t)
-    (new-body-sub-t t)
-    (new-body-mul-t t)
-    (new-body-element-copy-out-t t)
+    (λ c. omega arith) (λ c. omega arith) (λ c. omega arith) (λ c. omega arith) (λ c. omega arith) (λ c. omega arith)
+    -- what build_at, common_label and made ask
     (new-body-build-at-requires t)
-    (new-body-common-label-requires t)
-    (new-body-made-requires t)
+    (λ c κs. tt)
+    (λ c κs. let b = c .before .build-at .ensures .0 in (b .sound, b .few))
     (new-body-returns-3 t)

@@ -10,18 +10,18 @@ use Rattle.merging.proofs.merge.Tie as tie
 covers-noting-requires : tie.Need-covers-noting-requires
 covers-noting-requires c κs =
     let s = c .before in
-    nothing-noted (s .args .p) (s .args .q) (s .pre .0) (s .pre .1)
+    nothing-noted _ _ (s .pre .0) (s .pre .1)
 
 returns : tie.Need-returns
 returns c =
     let asked = c .before in
     let s = asked .before .before in
-    merges-first (s .args .p) (s .args .q) (asked .covers-noting .result) true (asked .covers-noting .ensures .0) (s .pre .0) (c .if1 .taken)
+    merges-first _ _ _ true (asked .covers-noting .ensures .0) (s .pre .0) (c .if1 .taken)
 
 covers-noting-requires-2 : tie.Need-covers-noting-requires-2
 covers-noting-requires-2 c κs =
     let s = c .before .before .before .before in
-    nothing-noted (s .args .q) (s .args .p) (s .pre .1) (s .pre .0)
+    nothing-noted _ _ (s .pre .1) (s .pre .0)
 
 returns-2 : tie.Need-returns-2
 returns-2 c =
@@ -29,8 +29,9 @@ returns-2 c =
     let no = asked .before .before in
     let first = no .before in
     let s = first .before .before in
-    merges-second (s .args .p) (s .args .q) (first .covers-noting .result) (asked .covers-noting2 .result) (first .covers-noting .ensures .0) (no .if1 .left) (asked .covers-noting2 .ensures .0) (s .pre .1) (c .if2 .taken)
+    merges-second _ _ _ _ (first .covers-noting .ensures .0) (no .if1 .left) (asked .covers-noting2 .ensures .0) (s .pre .1) (c .if2 .taken)
 
+-- the search finds the notes that fit the order of the two
 build-at-requires : tie.Need-build-at-requires
 build-at-requires c κs =
     let asked = c .before .before .before .before in
@@ -49,8 +50,7 @@ returns-3 c =
     let asked = not .before in
     let no = asked .before .before in
     let first = no .before in
-    let s = first .before .before in
-    merges-built (s .args .p) (s .args .q) (first .covers-noting .result) (asked .covers-noting2 .result) (first .covers-noting .ensures .0) (no .if1 .left) (asked .covers-noting2 .ensures .0) (not .if2 .left) (c .build-at .result) (c .build-at .ensures .0)
+    merges-built _ _ _ _ (first .covers-noting .ensures .0) (no .if1 .left) (asked .covers-noting2 .ensures .0) (not .if2 .left) _ (c .build-at .ensures .0)
 
 pub merge-spec : {M : Type 1} → statement M
 merge-spec =
