@@ -70,7 +70,7 @@ steps-beside : (p k : ℕ) (f g : Forest) → stepsFrom p k (beside f g) ≡ ste
 unfolding beside stepsFrom size
 steps-beside p k none g = ap (λ (n : ℕ). stepsFrom p n g) (omega arith)
 steps-beside p k (step a l kids later) g =
-    let same : stepsFrom p (suc k + size kids + size later) g ≡ stepsFrom p (k + suc (size kids + size later)) g = ap (λ (n : ℕ). stepsFrom p n g) (omega arith) in
+    let same : suc k + size kids + size later ≡ k + suc (size kids + size later) = omega arith in
     rw (steps-beside p (suc k + size kids) later g, same, append-assoc)
 
 -- so they are written after one another

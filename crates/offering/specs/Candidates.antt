@@ -2,13 +2,12 @@
 use Prim.Native.Nat.{ℕ, _≤_}
 use mathlib.Core.Path.{_≡_, refl, sym, _∙_, ap, subst}
 use mathlib.Core.Bool.{Bool, _||_}
-use mathlib.Core.List.{List, []}
+use mathlib.Core.List.{[]}
 use native.Mathlib.Omega.{arith}
 use Rattle.base.specs.Choice.{pick}
 use Rattle.meaning.specs.Forest.{near, far, axisOf, Forest, none, step, size, stepsFrom, stepsOf}
 use Rattle.meaning.specs.Covering.{stepAt}
 use Rattle.meaning.specs.Merging.{Branch, alone, Body, offer, meet}
-use Rattle.meaning.specs.declared.Step.{Step}
 use Rattle.shapes.specs.Shapes.{patternOf, stepsIn}
 use Rattle.shapes.specs.declared.Pattern.{Pattern}
 use Rattle.shapes.specs.Steps.{count-size}
@@ -53,10 +52,9 @@ pub candidate : (m : Marked) (body : Body) → IsBody m body → (c : Pattern) (
     → Stands c (alone (candidateOf bothNear body))
 unfolding alone
 candidate m body h c bothNear x e s =
-    let steps : stepsIn (m .pattern) ≡ stepsOf (step near (body .label) (body .kids) none) = sym (h .stands .sound .written) ∙ ap stepsOf (h .stands .pattern) in
-    let label-is : stepAt (stepsIn (m .pattern)) 1 .label ≡ body .label = ap (λ (ss : List Step). stepAt ss 1 .label) steps ∙ first-label (body .label) (body .kids) in
-    let kids-are : childrenOf (stepsIn (m .pattern)) 1 ≡ body .kids = ap (λ (ss : List Step). childrenOf ss 1) steps ∙ first-kids (body .label) (body .kids) in
-    rw (e, label-is, kids-are) at s
+    let steps : stepsIn (m .pattern) ≡ stepsOf (step near (body .label) (body .kids) none) =
+    sym (h .stands .sound .written) ∙ ap stepsOf (h .stands .pattern) in
+    rw (e, steps, first-label (body .label) (body .kids), first-kids (body .label) (body .kids)) at s
 
 -- it is the only root branch of its pattern
 pub only-branch : (c : Pattern) (b : Branch) → Stands c (alone b) → IsBranch c
@@ -69,7 +67,8 @@ unfolding firstBranch alone
 first-alone x = refl
 
 -- what is built after the candidate is offered
-pub met : (own : ℕ) (b m r : Marked) (bothNear marked : Bool) (c : Pattern) → Stands c (alone (candidateOf bothNear (bodyIn m))) → marked ≡ (b .clipped || m .clipped)
+pub met : (own : ℕ) (b m r : Marked) (bothNear marked : Bool) (c : Pattern) → Stands c (alone (candidateOf bothNear (bodyIn m)))
+    → marked ≡ (b .clipped || m .clipped)
     → Built own r (offer 16 own (firstBranch (patternOf c)) (buildingOf (record { pattern = b .pattern; clipped = marked })))
     → Built own r (meet 16 own bothNear (bodyIn m) (buildingOf b))
 unfolding meet buildingOf buildingAt bodyIn

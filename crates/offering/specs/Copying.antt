@@ -1,6 +1,6 @@
 -- The steps below a step of a pattern, copied after other steps: they are the same forest, written there.
 use Prim.Native.Nat.{ℕ, suc, _+_, _-_, _≤_, _<_}
-use mathlib.Core.Path.{_≡_, refl, sym, _∙_, ap}
+use mathlib.Core.Path.{_≡_, refl, _∙_, ap}
 use mathlib.Core.Bool.{true}
 use mathlib.Core.List.{List, [], _∷_, _++_, append-assoc, append-nil}
 use native.Mathlib.Omega.{arith}
@@ -8,7 +8,7 @@ use lib.Dec.{eqb, ltb}
 use lib.ListN.{length}
 use borrow.Author.Tests.{eq-eqb, ne-eqb, lt-ltb, le-ltb}
 use Rattle.base.specs.Choice.{pick}
-use Rattle.meaning.specs.Forest.{axisOf, axisNumber, Forest, none, step, size, childrenIn, stepsFrom, stepsOf}
+use Rattle.meaning.specs.Forest.{axisOf, Forest, none, step, size, childrenIn, stepsFrom, stepsOf}
 use Rattle.meaning.specs.declared.Step.{Step}
 use Rattle.shapes.specs.Shapes.{stepsIn}
 use Rattle.shapes.specs.Holding.{Holds, Stands, stands}
@@ -23,7 +23,7 @@ pub one-branch : (r t : Pattern) (axis label : ℕ) (kids : Forest) → axis ≤
 unfolding stepsOf stepsFrom
 one-branch r t axis label kids h one whole =
     let same : stepsIn r ++ stepsFrom 1 (suc (r .count)) kids ≡ stepsOf (step (axisOf axis) label kids none) =
-    rw (one .steps, one .number, axis-read axis h) (ap {B = List Step} (λ l. record { parent = 0; axis = axis; label = label } ∷ l) (sym (append-nil (stepsFrom 1 2 kids)))) in
+    rw (one .steps, one .number, axis-read axis h, append-nil) in
     stands t _ (record { steps = whole .steps ∙ same; number = whole .number ∙ ap length same; few = whole .few; full = whole .full })
 
 -- step s of the block below v, as it stands after n steps, with the children of v below `top`
@@ -62,11 +62,7 @@ module _ (v n top : ℕ) where
       let down = deeper k (omega arith) in
       let n1 : suc k - v + n ≡ suc (k - v + n) = omega arith in
       let n2 : suc k + size kids - v + n ≡ suc (k - v + n) + size kids = omega arith in
-      ap (movedBlock v n top) (steps-split p k a m kids later after)
-      ∙ rw (le-ltb p v l)
-      (ap {B = List Step} (λ rest. record { parent = newParent p; axis = axisNumber a; label = m } ∷ rest)
-      (inside ∙ rw (down, n1, beside, n2)
-      (sym (append-assoc (stepsFrom (k - v + n) (suc (k - v + n)) kids) (stepsFrom (newParent p) (suc (k - v + n) + size kids) later) (movedBlock v n top after)))))
+      ap (movedBlock v n top) (steps-split p k a m kids later after) ∙ rw (le-ltb p v l, inside, down, n1, beside, n2, append-assoc)
 
   -- what stands below v, moved after n steps
   pub moved-block : (ss : List Step) → Block v ss → movedBlock v n top ss ≡ stepsFrom top (suc n) (childrenIn v (suc v) ss)

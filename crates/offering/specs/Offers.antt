@@ -79,11 +79,13 @@ module _ (own : ℕ) (b : Marked) (c : Pattern) (sound : SoundPattern (b .patter
 
   module _ (stay : Pattern) (stood : Stands stay (staying (patternOf c) (patternOf (b .pattern)))) where
     -- the size that is tested
-    sizes : own + size (staying (alone (firstBranch (patternOf c))) (patternOf (b .pattern))) + size (alone (firstBranch (patternOf c))) ≡ own + stay .count + c .count
+    sizes : own + size (staying (alone (firstBranch (patternOf c))) (patternOf (b .pattern))) + size (alone (firstBranch (patternOf c)))
+        ≡ own + stay .count + c .count
     unfolding IsBranch
     sizes =
         let first : size (staying (alone (firstBranch (patternOf c))) (patternOf (b .pattern))) ≡ stay .count =
-        ap (λ (g : Forest). size (staying g (patternOf (b .pattern)))) (sym (branch .1)) ∙ ap size (sym (stood .pattern)) ∙ sym (count-size stay (stood .sound)) in
+        ap (λ (g : Forest). size (staying g (patternOf (b .pattern)))) (sym (branch .1)) ∙ ap size (sym (stood .pattern))
+        ∙ sym (count-size stay (stood .sound)) in
         let second : size (alone (firstBranch (patternOf c))) ≡ c .count = ap size (sym (branch .1)) ∙ sym (count-size c (branch .0)) in
         omega arith
 
@@ -97,12 +99,14 @@ module _ (own : ℕ) (b : Marked) (c : Pattern) (sound : SoundPattern (b .patter
         count-size t (put .sound) ∙ ap size (put .pattern) ∙ size-beside (patternOf stay) (patternOf c)
         ∙ cc (count-size stay (stood .sound), count-size c (branch .0)) in
         let same : patternOf t ≡ beside (staying g (patternOf (b .pattern))) g =
-        put .pattern ∙ ap (λ (h : Forest). beside h (patternOf c)) (stood .pattern) ∙ ap (λ (h : Forest). beside (staying h (patternOf (b .pattern))) h) (branch .1) in
+        put .pattern ∙ ap (λ (h : Forest). beside h (patternOf c)) (stood .pattern)
+        ∙ ap (λ (h : Forest). beside (staying h (patternOf (b .pattern))) h) (branch .1) in
         let n = sizes in
         record {
           sound = put .sound;
           few = omega arith;
-          is = ap (λ (h : Forest). buildingAt h (b .clipped)) same ∙ puts own (firstBranch (patternOf c)) (patternOf (b .pattern)) (b .clipped) (said-of ∙ u) (omega arith);
+          is = ap (λ (h : Forest). buildingAt h (b .clipped)) same
+              ∙ puts own (firstBranch (patternOf c)) (patternOf (b .pattern)) (b .clipped) (said-of ∙ u) (omega arith);
         }
 
     -- it is left out

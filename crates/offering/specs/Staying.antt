@@ -36,7 +36,10 @@ pub record Turn (p : Pattern) (k : ℕ) (rest : Forest) : Type 0 where
 -- every turn begins with a branch
 pub turn : (p : Pattern) → SoundPattern p → (k : ℕ) → k < p .count → (rest : Forest) → drop k (stepsIn p) ≡ stepsFrom 0 (suc k) rest → Turn p k rest
 unfolding stepsFrom size branchAt beside childrenOf childrenFrom
-turn p sound k h none e = absurd (let z : _≡_ {A = List Step} (stepIn p k ∷ drop (suc k) (stepsIn p)) [] = sym (steps-from p sound k h) ∙ e in let y : _≡_ {A = ℕ} 0 1 = cc in omega arith)
+turn p sound k h none e =
+    let z : _≡_ {A = List Step} (stepIn p k ∷ drop (suc k) (stepsIn p)) [] = sym (steps-from p sound k h) ∙ e in
+    let y : _≡_ {A = ℕ} 0 1 = cc in
+    absurd (omega arith)
 turn p sound k h (step a l kids later) e =
     let ss = stepsIn p in
     let s : Step = record { parent = 0; axis = axisNumber a; label = l } in
@@ -45,12 +48,13 @@ turn p sound k h (step a l kids later) e =
     let both : _≡_ {A = List Step} (stepIn p k ∷ drop (suc k) ss) (s ∷ (below ++ others)) = sym (steps-from p sound k h) ∙ e in
     let is : stepIn p k ≡ s = cc in
     let after : drop (suc k) ss ≡ below ++ others = cc in
-    let kids-are : childrenIn (suc k) (suc (suc k)) (drop (suc k) ss) ≡ kids =
-    rw after (read-back (suc k) (suc (suc k)) kids others (omega arith) (outside-written (suc k) (suc (suc k) + size kids) 0 (suc (suc k) + size kids) later (inl (omega arith)) (omega arith))) in
+    let outside = outside-written (suc k) (suc (suc k) + size kids) 0 (suc (suc k) + size kids) later (inl (omega arith)) (omega arith) in
+    let kids-are : childrenIn (suc k) (suc (suc k)) (drop (suc k) ss) ≡ kids = rw after (read-back (suc k) (suc (suc k)) kids others (omega arith) outside) in
     let label-is : stepAt ss (suc k) .label ≡ l = ap (λ (x : Step). x .label) (step-at p sound k h ∙ is) in
     let axis-is : axisOf (stepIn p k .axis) ≡ a = ap (λ (x : Step). axisOf (x .axis)) is ∙ axis-written a in
     let long : length ss - suc k ≡ size kids + size later =
-    sym (length-drop (suc k) ss) ∙ ap length after ∙ length-append below others ∙ cc (length-stepsFrom (suc k) (suc (suc k)) kids, length-stepsFrom 0 (suc (suc k) + size kids) later) in
+    sym (length-drop (suc k) ss) ∙ ap length after ∙ length-append below others
+    ∙ cc (length-stepsFrom (suc k) (suc (suc k)) kids, length-stepsFrom 0 (suc (suc k) + size kids) later) in
     let n1 : k + suc (size kids) ≡ suc k + size kids = omega arith in
     let n2 : suc (suc k) + size kids ≡ suc (k + suc (size kids)) = omega arith in
     let end : drop (k + suc (size kids)) ss ≡ stepsFrom 0 (suc (k + suc (size kids))) later =
@@ -69,6 +73,7 @@ turn p sound k h (step a l kids later) e =
 
 -- what stays so far, and what is to be asked of the branches from place k on
 pub record Left (p : Pattern) (c : Forest) (k : ℕ) (r : Pattern) : Type 0 where
+  pub given : SoundPattern p
   pub rest : Forest
   pub begins : drop k (stepsIn p) ≡ stepsFrom 0 (suc k) rest
   pub sound : SoundPattern r
@@ -93,63 +98,77 @@ unfolding stepsFrom
 no-steps k none e = refl
 no-steps k (step a l kids later) e = absurd (let y : _≡_ {A = ℕ} 0 1 = cc in omega arith)
 
-module _ (p : Pattern) (sound : SoundPattern p) (c : Forest) where
-  pub left-starts : (r : Pattern) → (patternOf r ≡ none) × SoundPattern r → Left p c 0 r
-  unfolding size stepsOf beside
-  left-starts r h =
-      let none-yet : r .count ≡ 0 = count-size r (h .1) ∙ ap size (h .0) in
-      record { rest = patternOf p; begins = sym (sound .written); sound = h .1; few = omega arith; within = omega arith; whole = rw (h .0) }
+-- at the start nothing is asked
+pub left-starts : (p : Pattern) (c : Forest) → SoundPattern p → (r : Pattern) → (patternOf r ≡ none) × SoundPattern r → Left p c 0 r
+unfolding size stepsOf beside
+left-starts p c given r h =
+    let none-yet : r .count ≡ 0 = count-size r (h .1) ∙ ap size (h .0) in
+    record {
+      given = given;
+      rest = patternOf p;
+      begins = sym (given .written);
+      sound = h .1;
+      few = omega arith;
+      within = omega arith;
+      whole = rw (h .0);
+    }
 
-  module _ (k : ℕ) (more : k < p .count) (r b : Pattern) (left : Left p c k r) (is : Stands b (branchAt p k)) where
-    -- its size
-    size-is : size (branchAt p k) ≡ b .count
-    size-is = sym (count-size b (is .sound) ∙ ap size (is .pattern))
-
-    -- it has a step, and is within the pattern
-    pub branch-fits : (1 ≤ b .count) × (k + b .count ≤ p .count)
-    unfolding size branchAt
-    branch-fits = let n = size-is in let o = turn p sound k more (left .rest) (left .begins) in let w = o .within in (omega arith, omega arith)
-
-    -- the branch can be laid on c
-    pub left-goes : (laid : Bool) → laid ≡ covers (patternOf b) c → laid ≡ true → Left p c (k + b .count) r
-    left-goes laid e t =
-        let o = turn p sound k more (left .rest) (left .begins) in
-        let yes : covers (branchAt p k) c ≡ true = rw (is .pattern) at (sym e ∙ t) in
-        let n : size (branchAt p k) ≡ b .count = size-is in
-        record {
-          rest = o .later;
-          begins = rw n at (o .next);
-          sound = left .sound;
-          few = omega (arith, left .few);
-          within = rw n at (o .within);
-          whole = sym (ap (beside (patternOf r)) (ap (staying c) (o .first) ∙ goes c p k (o .later) yes)) ∙ left .whole;
-        }
-
-    -- it can't be, and is put last
-    pub left-remains : (laid : Bool) → laid ≡ covers (patternOf b) c → laid ≡ false → (t : Pattern) → Stands t (beside (patternOf r) (patternOf b)) → Left p c (k + b .count) t
-    unfolding size
-    left-remains laid e un t put =
-        let o = turn p sound k more (left .rest) (left .begins) in
-        let not-laid : covers (branchAt p k) c ≡ false = rw (is .pattern) at (sym e ∙ un) in
-        let n : size (branchAt p k) ≡ b .count = size-is in
-        let two : t .count ≡ r .count + b .count =
-        count-size t (put .sound) ∙ ap size (put .pattern) ∙ size-beside (patternOf r) (patternOf b)
-        ∙ cc (count-size r (left .sound), count-size b (is .sound)) in
-        let put-is : patternOf t ≡ beside (patternOf r) (branchAt p k) = put .pattern ∙ ap (beside (patternOf r)) (is .pattern) in
-        record {
-          rest = o .later;
-          begins = rw n at (o .next);
-          sound = put .sound;
-          few = omega (arith, left .few);
-          within = rw n at (o .within);
-          whole =
-              ap (λ (f : Forest). beside f (staying c (o .later))) put-is ∙ beside-beside (patternOf r) (branchAt p k) (staying c (o .later))
-              ∙ sym (ap (beside (patternOf r)) (ap (staying c) (o .first) ∙ remains c p k (o .later) not-laid)) ∙ left .whole;
-        }
-
+module _ {p : Pattern} {c : Forest} {k : ℕ} {r : Pattern} (left : Left p c k r) where
   -- no branch is left
-  pub left-done : (k : ℕ) (r : Pattern) → p .count ≤ k → Left p c k r → Stands r (staying c (patternOf p))
+  pub left-done : p .count ≤ k → Stands r (staying c (patternOf p))
   unfolding staying
-  left-done k r h left =
-      let nothing-left : left .rest ≡ none = no-steps (suc k) (left .rest) (sym (left .begins) ∙ steps-end p sound k h) in
-      record { pattern = sym (beside-none (patternOf r)) ∙ sym (ap (λ (f : Forest). beside (patternOf r) (staying c f)) nothing-left) ∙ left .whole; sound = left .sound }
+  left-done h =
+      let nothing-left : left .rest ≡ none = no-steps (suc k) (left .rest) (sym (left .begins) ∙ steps-end p (left .given) k h) in
+      record { pattern = rw (nothing-left, beside-none) at (left .whole); sound = left .sound }
+
+  module _ (more : k < p .count) where
+    -- a branch begins here
+    pub next-turn : Turn p k (left .rest)
+    next-turn = turn p (left .given) k more (left .rest) (left .begins)
+
+    module _ {b : Pattern} (is : Stands b (branchAt p k)) where
+      -- its size
+      size-is : size (branchAt p k) ≡ b .count
+      size-is = sym (count-size b (is .sound) ∙ ap size (is .pattern))
+
+      -- it has a step, and is within the pattern
+      pub branch-fits : (1 ≤ b .count) × (k + b .count ≤ p .count)
+      unfolding size branchAt
+      branch-fits = let n = size-is in let w = next-turn .within in (omega arith, omega arith)
+
+      -- it can be laid on c
+      pub left-goes : {laid : Bool} → laid ≡ covers (patternOf b) c → laid ≡ true → Left p c (k + b .count) r
+      left-goes e t =
+          let o = next-turn in
+          let yes : covers (branchAt p k) c ≡ true = rw (is .pattern) at (sym e ∙ t) in
+          record {
+            given = left .given;
+            rest = o .later;
+            begins = rw size-is at (o .next);
+            sound = left .sound;
+            few = omega (arith, left .few);
+            within = rw size-is at (o .within);
+            whole = rw (o .first, goes c p k (o .later) yes) at (left .whole);
+          }
+
+      -- it can't be, and is put last
+      pub left-remains : {laid : Bool} → laid ≡ covers (patternOf b) c → laid ≡ false
+          → (t : Pattern) → Stands t (beside (patternOf r) (patternOf b)) → Left p c (k + b .count) t
+      unfolding size
+      left-remains e un t put =
+          let o = next-turn in
+          let not-laid : covers (branchAt p k) c ≡ false = rw (is .pattern) at (sym e ∙ un) in
+          let two : t .count ≡ r .count + b .count =
+          count-size t (put .sound) ∙ ap size (put .pattern) ∙ size-beside (patternOf r) (patternOf b)
+          ∙ cc (count-size r (left .sound), count-size b (is .sound)) in
+          let last : beside (patternOf r) (beside (branchAt p k) (staying c (o .later))) ≡ staying c (patternOf p) =
+          rw (o .first, remains c p k (o .later) not-laid) at (left .whole) in
+          record {
+            given = left .given;
+            rest = o .later;
+            begins = rw size-is at (o .next);
+            sound = put .sound;
+            few = omega (arith, left .few);
+            within = rw size-is at (o .within);
+            whole = rw (put .pattern, is .pattern, beside-beside) last;
+          }

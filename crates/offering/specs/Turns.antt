@@ -1,9 +1,10 @@
 -- The turns of the copying loop: what is copied so far, with what is left of the block, is the whole copy.
-use Prim.Native.Nat.{ℕ, suc, _+_, _≤_, _<_}
+use Prim.Native.Nat.{ℕ, suc, _+_, _-_, _≤_, _<_}
 use mathlib.Core.Path.{_≡_, sym, _∙_, ap}
-use mathlib.Core.List.{List, [], _∷_, _++_, append-assoc, append-nil}
+use mathlib.Core.List.{List, _++_, append-assoc, append-nil}
+use native.Mathlib.Omega.{arith}
 use native.Mathlib.Numerals.{add-one}
-use lib.ListN.{drop}
+use lib.ListN.{length, drop, set}
 use borrow.Author.Tests.{lt-ltb, le-ltb}
 use Rattle.base.specs.Choice.{pick}
 use Rattle.meaning.specs.Forest.{stepsFrom}
@@ -11,7 +12,7 @@ use Rattle.meaning.specs.declared.Step.{Step}
 use Rattle.shapes.specs.Shapes.{stepsIn, SoundPattern}
 use Rattle.shapes.specs.declared.Pattern.{Pattern}
 use Rattle.shapes.specs.Steps.{stepIn, steps-from, steps-end, block-in}
-use Rattle.shapes.specs.Holding.{after}
+use Rattle.shapes.specs.Holding.{Holds, holding, after, one-more}
 use Rattle.laws.specs.Children.{childrenFrom, childrenOf}
 use Rattle.offering.specs.Copying.{movedStep, movedBlock, moved-block}
 
@@ -19,28 +20,55 @@ use Rattle.offering.specs.Copying.{movedStep, movedBlock, moved-block}
 unfoldable pub withRest : ℕ → ℕ → ℕ → List Step → List Step → ℕ → List Step
 withRest v n top done ss k = done ++ movedBlock v n top (drop k ss)
 
-module _ (p : Pattern) (sound : SoundPattern p) (v n top k : ℕ) (whole : List Step) where
-  -- at the start nothing is copied
-  pub copy-starts : (done : List Step) → v ≤ p .count → withRest v n top done (stepsIn p) v ≡ done ++ stepsFrom top (suc n) (childrenOf (stepsIn p) v)
-  unfolding withRest childrenOf childrenFrom
-  copy-starts done h = ap (λ (l : List Step). done ++ l) (moved-block v n top (drop v (stepsIn p)) (block-in p sound v h))
+-- the loop has come to place k with t copied, of n steps at the start
+pub record Copying (p : Pattern) (v n top k : ℕ) (t : Pattern) (whole : List Step) : Type 0 where
+  pub sound : SoundPattern p
+  pub from : v ≤ k
+  pub upto : k ≤ p .count
+  pub full : length (t .steps) ≡ 16
+  pub number : t .count ≡ n + (k - v)
+  pub room : n + (p .count - v) ≤ 16
+  pub rest : withRest v n top (stepsIn t) (stepsIn p) k ≡ whole
 
+-- at the start nothing is copied
+pub copy-starts : (p r : Pattern) (v top : ℕ) → SoundPattern p → length (r .steps) ≡ 16 → v ≤ p .count → r .count + (p .count - v) ≤ 16
+    → Copying p v (r .count) top v r (stepsIn r ++ stepsFrom top (suc (r .count)) (childrenOf (stepsIn p) v))
+unfolding withRest childrenOf childrenFrom
+copy-starts p r v top sound full h room = record {
+  sound = sound;
+  from = omega arith;
+  upto = h;
+  full = full;
+  number = omega arith;
+  room = room;
+  rest = ap (λ (l : List Step). stepsIn r ++ l) (moved-block v (r .count) top (drop v (stepsIn p)) (block-in p sound v h));
+}
+
+module _ {p : Pattern} {v n top k : ℕ} {t : Pattern} {whole : List Step} (i : Copying p v n top k t whole) where
   -- a step of the block is copied
-  pub copy-step : (done : List Step) → k < p .count → v ≤ stepIn p k .parent → withRest v n top done (stepsIn p) k ≡ whole
-      → withRest v n top (after done (movedStep v n top (stepIn p k))) (stepsIn p) (k + 1) ≡ whole
+  pub copy-step : k < p .count → v ≤ stepIn p k .parent → (s : Step) → s ≡ movedStep v n top (stepIn p k)
+      → (u : Pattern) → u .count ≡ t .count + 1 → u .steps ≡ set (t .steps) (t .count) s → Copying p v n top (k + 1) u whole
   unfolding withRest movedBlock pick after
-  copy-step done h l i =
-      let s = movedStep v n top (stepIn p k) in
-      rw (add-one k)
-      (append-assoc done (s ∷ []) (movedBlock v n top (drop (suc k) (stepsIn p)))
-      ∙ sym (rw (steps-from p sound k h, le-ltb (stepIn p k .parent) v l)) ∙ i)
+  copy-step h l s e u counted put =
+      let more = one-more t s u (omega (arith, i)) (i .full) counted put in
+      let others = movedBlock v n top (drop (suc k) (stepsIn p)) in
+      record {
+        sound = i .sound;
+        from = omega arith;
+        upto = omega arith;
+        full = more .full;
+        number = omega arith;
+        room = i .room;
+        rest = rw (add-one k, more .steps, e)
+            (append-assoc (stepsIn t) _ others ∙ sym (rw (steps-from p (i .sound) k h, le-ltb (stepIn p k .parent) v l)) ∙ i .rest);
+      }
 
   -- the block ends
-  pub copy-ends : (done : List Step) → k < p .count → stepIn p k .parent < v → withRest v n top done (stepsIn p) k ≡ whole → done ≡ whole
+  pub copy-ends : k < p .count → stepIn p k .parent < v → Holds t whole
   unfolding withRest movedBlock pick
-  copy-ends done h l i = sym (append-nil done) ∙ sym (rw (steps-from p sound k h, lt-ltb (stepIn p k .parent) v l)) ∙ i
+  copy-ends h l = holding t whole (omega arith) (i .full) (rw (steps-from p (i .sound) k h, lt-ltb (stepIn p k .parent) v l, append-nil) at (i .rest))
 
   -- the steps end
-  pub copy-done : (done : List Step) → p .count ≤ k → withRest v n top done (stepsIn p) k ≡ whole → done ≡ whole
+  pub copy-done : p .count ≤ k → Holds t whole
   unfolding withRest movedBlock
-  copy-done done h i = sym (append-nil done) ∙ sym (rw (steps-end p sound k h)) ∙ i
+  copy-done h = holding t whole (omega arith) (i .full) (rw (steps-end p (i .sound) k h, append-nil) at (i .rest))

@@ -12,17 +12,12 @@ covers-requires c κs = (c .before .pre .2 .0, c .before .pre .0)
 
 returns : tie.Need-returns
 returns c =
-    let s = c .before .before .before in
-    let a = s .args in
-    let v = c .before .covers in
-    skips-it (a .own) (a .b) (a .c) (s .pre .0) (s .pre .1) (s .pre .2) (v .result) (v .ensures) (c .if1 .taken)
+    let s = c .before .before .before .pre in
+    skips-it _ _ _ (s .0) (s .1) (s .2) _ (c .before .covers .ensures) (c .if1 .taken)
 
 stays-requires : tie.Need-stays-requires
 unfolding IsBranch
 stays-requires c κs = (c .before .before .before .pre .0, c .before .before .before .pre .2 .0)
-
-add-if2 : tie.Need-add-if2
-add-if2 c = search needs
 
 add-if2-2 : tie.Need-add-if2-2
 unfolding IsBranch
@@ -37,27 +32,20 @@ copied-requires c κs =
 
 returns-2 : tie.Need-returns-2
 returns-2 c =
-    let s = c .before .before .before .before .before .before .before .before in
-    let a = s .args in
-    let v = c .before .before .before .before .before .before .covers in
-    puts-it (a .own) (a .b) (a .c) (s .pre .0) (s .pre .1) (s .pre .2) (v .result) (v .ensures) (c .before .before .before .before .stays .result) (c .before .before .before .before .stays .ensures) (c .before .before .before .before .before .if1 .left) (c .before .if2 .taken) (c .copied .result) (copied-beside (c .before .before .before .before .stays .result) (a .c) (c .copied .result) (c .before .before .before .before .stays .ensures .sound) (c .copied .ensures))
+    let stay = c .before .before .before .before .stays .ensures in
+    let not-laid = c .before .before .before .before .before in
+    let s = not-laid .before .before .before .pre in
+    let put = copied-beside _ _ _ (stay .sound) (c .copied .ensures) in
+    puts-it _ _ _ (s .0) (s .1) (s .2) _ (not-laid .before .covers .ensures) _ stay (not-laid .if1 .left) (c .before .if2 .taken) _ put
 
 returns-3 : tie.Need-returns-3
 returns-3 c =
-    let s = c .before .before .before .before .before .before .before in
-    let a = s .args in
-    let v = c .before .before .before .before .before .covers in
-    leaves-it (a .own) (a .b) (a .c) (s .pre .0) (s .pre .1) (s .pre .2) (v .result) (v .ensures) (c .before .before .before .stays .result) (c .before .before .before .stays .ensures) (c .before .before .before .before .if1 .left) (c .if2 .left)
+    let stay = c .before .before .before .stays .ensures in
+    let not-laid = c .before .before .before .before in
+    let s = not-laid .before .before .before .pre in
+    leaves-it _ _ _ (s .0) (s .1) (s .2) _ (not-laid .before .covers .ensures) _ stay (not-laid .if1 .left) (c .if2 .left)
 
 pub offer-spec : {M : Type 1} → statement M
 offer-spec =
     tie.close
-    (tie.spec
-    covers-requires
-    returns
-    stays-requires
-    add-if2
-    add-if2-2
-    copied-requires
-    returns-2
-    returns-3)
+    (tie.spec covers-requires returns stays-requires (λ c. search needs) add-if2-2 copied-requires returns-2 returns-3)
