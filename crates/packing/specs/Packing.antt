@@ -1,6 +1,6 @@
 -- A body as it is kept in the table: its step count, its mark, and three bytes a step.
 use Prim.Native.Nat.{ℕ, zero, suc, _+_, _*_, _-_, _≤_, _<_}
-use mathlib.Core.Path.{_≡_, sym, _∙_, ap}
+use mathlib.Core.Path.{_≡_, refl, sym, _∙_, ap}
 use mathlib.Core.Bool.{Bool}
 use mathlib.Core.List.{List, [], _∷_, _++_, append-assoc, append-nil}
 use mathlib.Core.Logic.{_⊎_, inl, inr}
@@ -13,10 +13,10 @@ use lib.Seq.{getD-set-same, getD-set-other}
 use Rattle.meaning.specs.Forest.{near, none, step, stepsOf}
 use Rattle.meaning.specs.Merging.{Body}
 use Rattle.meaning.specs.declared.Step.{Step}
-use Rattle.shapes.specs.Shapes.{stepsIn, SoundPattern}
+use Rattle.shapes.specs.Shapes.{stepsIn, patternOf, SoundPattern}
 use Rattle.shapes.specs.declared.Pattern.{Pattern}
 use Rattle.shapes.specs.Steps.{stepIn, steps-from, steps-end}
-use Rattle.shapes.specs.Holding.{Holds, stands, after}
+use Rattle.shapes.specs.Holding.{Holds, stands, holding, holds-none, after, one-more}
 use Rattle.offering.specs.declared.Marked.{Marked}
 use Rattle.offering.specs.Offers.{IsBody}
 
@@ -45,27 +45,55 @@ pub record Packed (bs : List ℕ) (body : Body) : Type 0 where
 unfoldable pub withPacked : List Step → List ℕ → ℕ → List Step
 withPacked done bs k = done ++ packedFrom bs k (getD bs 0 0 - k)
 
+-- the loop has read k of n steps into p
+pub record Unpacking (bs : List ℕ) (n : ℕ) (p : Pattern) (k : ℕ) : Type 0 where
+  pub number : p .count ≡ k
+  pub upto : k ≤ n
+  pub all : n ≡ getD bs 0 0
+  pub few : n ≤ 16
+  pub full : length (p .steps) ≡ 16
+  pub rest : withPacked (stepsIn p) bs k ≡ packed bs
+
 -- at the start nothing is read
-pub unpack-starts : (bs : List ℕ) (done : List Step) → done ≡ [] → withPacked done bs 0 ≡ packed bs
+pub unpack-starts : (bs : List ℕ) (p : Pattern) → (patternOf p ≡ none) × SoundPattern p → getD bs 0 0 ≤ 16 → Unpacking bs (getD bs 0 0) p 0
 unfolding withPacked packed
-unpack-starts bs done e = rw e (ap (packedFrom bs 0) (omega arith))
+unpack-starts bs p empty few =
+    let no-step = holds-none p empty in
+    record {
+      number = no-step .0;
+      upto = omega arith;
+      all = refl;
+      few = few;
+      full = empty .1 .full;
+      rest = rw (no-step .1) (ap (packedFrom bs 0) (omega arith));
+    }
 
--- one step is read
-pub unpack-step : (bs : List ℕ) (done whole : List Step) (k : ℕ) → k < getD bs 0 0 → withPacked done bs k ≡ whole → withPacked (after done (stepOf bs k)) bs (k + 1) ≡ whole
-unfolding withPacked packedFrom after
-unpack-step bs done whole k h i =
-    let n : getD bs 0 0 - k ≡ suc (getD bs 0 0 - suc k) = omega arith in
-    rw (add-one k) (append-assoc done (stepOf bs k ∷ []) (packedFrom bs (suc k) (getD bs 0 0 - suc k)) ∙ sym (rw n) ∙ i)
+module _ {bs : List ℕ} {n : ℕ} {p : Pattern} {k : ℕ} (i : Unpacking bs n p k) where
+  -- one step is read
+  pub unpack-step : k < n → (t : Pattern) → t .count ≡ k + 1 → t .steps ≡ set (p .steps) k (stepOf bs k) → Unpacking bs n t (k + 1)
+  unfolding withPacked packedFrom after
+  unpack-step h t counted put =
+      let more = one-more p (stepOf bs k) t (omega arith) (i .full) (omega arith) (rw (i .number) put) in
+      let left : getD bs 0 0 - k ≡ suc (getD bs 0 0 - suc k) = omega arith in
+      record {
+        number = counted;
+        upto = omega arith;
+        all = i .all;
+        few = i .few;
+        full = more .full;
+        rest = rw (add-one k, more .steps, append-assoc) (rw left at (i .rest));
+      }
 
--- all is read
-pub unpack-done : (bs : List ℕ) (done whole : List Step) (k : ℕ) → getD bs 0 0 ≤ k → withPacked done bs k ≡ whole → done ≡ whole
-unfolding withPacked packedFrom
-unpack-done bs done whole k h i =
-    let n : getD bs 0 0 - k ≡ 0 = omega arith in
-    sym (append-nil done) ∙ sym (rw n) ∙ i
+  -- all is read
+  pub unpack-done : n ≤ k → Holds p (packed bs)
+  unfolding withPacked packedFrom
+  unpack-done h =
+      let none-left : getD bs 0 0 - k ≡ 0 = omega arith in
+      holding p (packed bs) (omega arith) (i .full) (rw (none-left, append-nil) at (i .rest))
 
 -- what is read of a body is that body
-pub unpacked : (bs : List ℕ) (body : Body) (m : Marked) → Packed bs body → Holds (m .pattern) (packed bs) → m .clipped ≡ eqb (getD bs 1 0) 1 → IsBody m body
+pub unpacked : (bs : List ℕ) (body : Body) (m : Marked)
+    → Packed bs body → Holds (m .pattern) (packed bs) → m .clipped ≡ eqb (getD bs 1 0) 1 → IsBody m body
 unpacked bs body m h p e =
     record {
       stands = stands (m .pattern) _ (record { steps = p .steps ∙ h .steps; number = p .number ∙ ap length (h .steps); few = p .few; full = p .full });
@@ -89,33 +117,26 @@ module _ (bs : List ℕ) (k : ℕ) (s : Step) (full : length bs ≡ 50) (room : 
   -- no byte more or less
   set-length : length (stepSet bs k s) ≡ 50
   unfolding stepSet
-  set-length =
-      let b1 = set bs (2 + 3 * k) (s .parent) in
-      let b2 = set b1 (3 + 3 * k) (s .axis) in
-      length-set b2 (4 + 3 * k) (s .label) ∙ length-set b1 (3 + 3 * k) (s .axis) ∙ length-set bs (2 + 3 * k) (s .parent) ∙ full
+  set-length = simp length-set full
 
   -- other bytes stay
   set-elsewhere : (i : ℕ) → (i ≡ 2 + 3 * k → ⊥) → (i ≡ 3 + 3 * k → ⊥) → (i ≡ 4 + 3 * k → ⊥) → getD (stepSet bs k s) i 0 ≡ getD bs i 0
   unfolding stepSet
-  set-elsewhere i a b c =
-      let b1 = set bs (2 + 3 * k) (s .parent) in
-      let b2 = set b1 (3 + 3 * k) (s .axis) in
-      getD-set-other b2 (4 + 3 * k) i (s .label) 0 c ∙ getD-set-other b1 (3 + 3 * k) i (s .axis) 0 b ∙ getD-set-other bs (2 + 3 * k) i (s .parent) 0 a
+  set-elsewhere i a b c = rw (getD-set-other, getD-set-other, getD-set-other)
 
   -- the step is there
   set-same : stepOf (stepSet bs k s) k ≡ s
   unfolding stepSet stepOf
   set-same =
-      let b1 = set bs (2 + 3 * k) (s .parent) in
-      let b2 = set b1 (3 + 3 * k) (s .axis) in
-      let l1 : length b1 ≡ 50 = length-set bs (2 + 3 * k) (s .parent) ∙ full in
-      let l2 : length b2 ≡ 50 = length-set b1 (3 + 3 * k) (s .axis) ∙ l1 in
-      let pa : getD (set b2 (4 + 3 * k) (s .label)) (2 + 3 * k) 0 ≡ s .parent =
-      getD-set-other b2 (4 + 3 * k) (2 + 3 * k) (s .label) 0 (λ e. omega arith) ∙ getD-set-other b1 (3 + 3 * k) (2 + 3 * k) (s .axis) 0 (λ e. omega arith)
-      ∙ getD-set-same bs (2 + 3 * k) (s .parent) 0 (omega arith) in
-      let ax : getD (set b2 (4 + 3 * k) (s .label)) (3 + 3 * k) 0 ≡ s .axis =
-      getD-set-other b2 (4 + 3 * k) (3 + 3 * k) (s .label) 0 (λ e. omega arith) ∙ getD-set-same b1 (3 + 3 * k) (s .axis) 0 (omega arith) in
-      let la : getD (set b2 (4 + 3 * k) (s .label)) (4 + 3 * k) 0 ≡ s .label = getD-set-same b2 (4 + 3 * k) (s .label) 0 (omega arith) in
+      let n1 : 2 + 3 * k ≡ 3 + 3 * k → ⊥ = λ e. omega arith in
+      let n2 : 2 + 3 * k ≡ 4 + 3 * k → ⊥ = λ e. omega arith in
+      let n3 : 3 + 3 * k ≡ 4 + 3 * k → ⊥ = λ e. omega arith in
+      let l1 : 2 + 3 * k < length bs = omega arith in
+      let l2 : 3 + 3 * k < length (set bs (2 + 3 * k) (s .parent)) = simp length-set (omega arith) in
+      let l3 : 4 + 3 * k < length (set (set bs (2 + 3 * k) (s .parent)) (3 + 3 * k) (s .axis)) = simp length-set (omega arith) in
+      let pa : getD (stepSet bs k s) (2 + 3 * k) 0 ≡ s .parent = rw (getD-set-other, getD-set-other, getD-set-same) in
+      let ax : getD (stepSet bs k s) (3 + 3 * k) 0 ≡ s .axis = rw (getD-set-other, getD-set-same) in
+      let la : getD (stepSet bs k s) (4 + 3 * k) 0 ≡ s .label = rw getD-set-same in
       λ i. record { parent = pa i; axis = ax i; label = la i }
 
   -- an earlier step stays
@@ -144,10 +165,12 @@ module _ (p : Pattern) (sound : SoundPattern p) (clipped : Bool) where
   pub written-step : (bs : List ℕ) (k : ℕ) → k < p .count → Written p clipped bs k → Written p clipped (stepSet bs k (stepIn p k)) (k + 1)
   written-step bs k h w =
       let room : k < 16 = omega (arith, sound .few) in
+      let before : (i : ℕ) → i < 2 → getD (stepSet bs k (stepIn p k)) i 0 ≡ getD bs i 0 =
+      λ i l. set-elsewhere bs k (stepIn p k) (w .full) room i (λ e. omega arith) (λ e. omega arith) (λ e. omega arith) in
       record {
         full = set-length bs k (stepIn p k) (w .full) room;
-        count = set-elsewhere bs k (stepIn p k) (w .full) room 0 (λ e. omega arith) (λ e. omega arith) (λ e. omega arith) ∙ w .count;
-        mark = ap (λ (n : ℕ). eqb n 1) (set-elsewhere bs k (stepIn p k) (w .full) room 1 (λ e. omega arith) (λ e. omega arith) (λ e. omega arith)) ∙ w .mark;
+        count = before 0 (omega arith) ∙ w .count;
+        mark = rw (before 1 (omega arith)) (w .mark);
         steps = λ j l. let at-most : j ≤ k = omega arith in go j (eq-or-lt-of-le at-most);
       }
     where
@@ -156,7 +179,8 @@ module _ (p : Pattern) (sound : SoundPattern p) (clipped : Bool) where
       go j (inr l) = set-other bs k (stepIn p k) (w .full) (omega (arith, sound .few)) j l ∙ w .steps j l
 
   -- the steps that are written
-  packed-from : (bs : List ℕ) (n k : ℕ) → k + n ≡ p .count → ((j : ℕ) → j < p .count → stepOf bs j ≡ stepIn p j) → packedFrom bs k n ≡ drop k (stepsIn p)
+  packed-from : (bs : List ℕ) (n k : ℕ) → k + n ≡ p .count → ((j : ℕ) → j < p .count → stepOf bs j ≡ stepIn p j)
+      → packedFrom bs k n ≡ drop k (stepsIn p)
   unfolding packedFrom
   packed-from bs zero k e h = sym (steps-end p sound k (omega arith))
   packed-from bs (suc n) k e h =

@@ -17,69 +17,16 @@ Inv-loop p mark bytes₀ k₀ bytes k = Written p (eqb mark 1) bytes k × SoundP
 abbrev μ-loop : tie.MeasureT-loop
 μ-loop p mark bytes₀ k₀ bytes k = p .count - k
 
-mark-number-requires : tie.Need-mark-number-requires Inv-loop μ-loop
-mark-number-requires c κs = search needs
-
-cast-bytes : tie.Need-cast-bytes Inv-loop μ-loop
-cast-bytes c = search needs
-
-array-write-bytes : tie.Need-array-write-bytes Inv-loop μ-loop
-array-write-bytes c = omega arith
-
-array-write-bytes-2 : tie.Need-array-write-bytes-2 Inv-loop μ-loop
-array-write-bytes-2 c = omega arith
-
 loop-holds : tie.Need-loop-holds Inv-loop μ-loop
 loop-holds c =
-    let p = c .before .before .args .b .pattern in
     let h = c .before .before .pre in
-    (written-starts p h (eqb (c .mark-number .result) 1) (replicate 50 0) (c .mark-number .result) refl refl, h, omega arith)
-
-mul-s : tie.Need-mul-s Inv-loop μ-loop
-mul-s c = omega arith
-
-element-copy-out-s : tie.Need-element-copy-out-s Inv-loop μ-loop
-element-copy-out-s c = omega arith
-
-mul-bytes : tie.Need-mul-bytes Inv-loop μ-loop
-mul-bytes c = omega arith
-
-add-bytes : tie.Need-add-bytes Inv-loop μ-loop
-add-bytes c = omega arith
-
-array-write-bytes-3 : tie.Need-array-write-bytes-3 Inv-loop μ-loop
-array-write-bytes-3 c = omega arith
-
-mul-bytes-2 : tie.Need-mul-bytes-2 Inv-loop μ-loop
-mul-bytes-2 c = omega arith
-
-add-bytes-2 : tie.Need-add-bytes-2 Inv-loop μ-loop
-add-bytes-2 c = omega arith
-
-array-write-bytes-4 : tie.Need-array-write-bytes-4 Inv-loop μ-loop
-array-write-bytes-4 c = omega arith
-
-mul-bytes-3 : tie.Need-mul-bytes-3 Inv-loop μ-loop
-mul-bytes-3 c = omega arith
-
-add-bytes-3 : tie.Need-add-bytes-3 Inv-loop μ-loop
-add-bytes-3 c = omega arith
-
-array-write-bytes-5 : tie.Need-array-write-bytes-5 Inv-loop μ-loop
-array-write-bytes-5 c = omega arith
-
-add-k : tie.Need-add-k Inv-loop μ-loop
-add-k c = omega arith
-
-loop-less : tie.Need-loop-less Inv-loop μ-loop
-loop-less c = omega arith
+    (written-starts _ h _ (replicate 50 0) _ refl refl, h, omega arith)
 
 loop-again : tie.Need-loop-again Inv-loop μ-loop
 unfolding stepIn stepSet
 loop-again c =
-    let p = c .before .before .before .before .before .args .b .pattern in
     let l = c .before .before .loop in
-    (written-step p (l .inv .1) (eqb (c .before .before .before .mark-number .result) 1) (l .bytes) (l .k) (omega arith) (l .inv .0), l .inv .1, omega arith)
+    (written-step _ (l .inv .1) _ _ (l .k) (omega arith) (l .inv .0), l .inv .1, omega arith)
 
 returns : tie.Need-returns Inv-loop μ-loop
 returns c =
@@ -89,29 +36,23 @@ returns c =
     let m = c .before .before .mark-number .ensures in
     rw (n, m) at (l .inv .0)
 
+-- the others: three bytes a step are within fifty, and the measure falls
 pub pack-spec : {M : Type 1} → statement M
 pack-spec =
     tie.close
     (tie.spec
     Inv-loop
     μ-loop
-    mark-number-requires
-    cast-bytes
-    array-write-bytes
-    array-write-bytes-2
+    (λ c κs. tt)
+    (λ c. search needs)
+    (λ c. omega arith)
+    (λ c. omega arith)
     loop-holds
-    mul-s
-    element-copy-out-s
-    mul-bytes
-    add-bytes
-    array-write-bytes-3
-    mul-bytes-2
-    add-bytes-2
-    array-write-bytes-4
-    mul-bytes-3
-    add-bytes-3
-    array-write-bytes-5
-    add-k
-    loop-less
+    (λ c. omega arith) (λ c. omega arith)
+    (λ c. omega arith) (λ c. omega arith) (λ c. omega arith)
+    (λ c. omega arith) (λ c. omega arith) (λ c. omega arith)
+    (λ c. omega arith) (λ c. omega arith) (λ c. omega arith)
+    (λ c. omega arith)
+    (λ c. omega arith)
     loop-again
     returns)
