@@ -54,11 +54,11 @@ nothing-noted a b p q = record {
 }
 
 -- what is so of every cell stays so where one is filled with what it is so of
-pub cell-filled : {A : Type 0} (P : ℕ → ℕ → A → Type 0) (cells : List A) (v w : ℕ) (n d : A) → length cells ≡ 256 → 1 ≤ v → v ≤ 16 → 1 ≤ w → w ≤ 16 → P v w n
+pub cell-filled : {A : Type 0} (P : ℕ → ℕ → A → Type 0) (cells : List A) (v w : ℕ) → PairOfSteps v w → (n d : A) → length cells ≡ 256 → P v w n
     → ((x y : ℕ) → 1 ≤ x → x ≤ 16 → 1 ≤ y → y ≤ 16 → P x y (getD cells (cellOf x y) d))
     → (x y : ℕ) → 1 ≤ x → x ≤ 16 → 1 ≤ y → y ≤ 16 → P x y (getD (set cells (cellOf v w) n) (cellOf x y) d)
 unfolding cellOf
-cell-filled P cells v w n d full hv lv hw lw own other x y hx lx hy ly = go (true-or-false (eqb (cellOf x y) (cellOf v w)))
+cell-filled P cells v w pair n d full own other x y hx lx hy ly = go (true-or-false (eqb (cellOf x y) (cellOf v w)))
   where
     go : (eqb (cellOf x y) (cellOf v w) ≡ true) ⊎ (eqb (cellOf x y) (cellOf v w) ≡ false) → P x y (getD (set cells (cellOf v w) n) (cellOf x y) d)
     go (inl q) =
@@ -81,18 +81,18 @@ unfolding noteOf
 noted-no true q = absurd (omega arith)
 noted-no false q = refl
 
-module _ (a b : Pattern) (notes : List ℕ) (h : Noted a b notes) (v w : ℕ) (pair : PairOfSteps v w) where
+module _ {a b : Pattern} {notes : List ℕ} (h : Noted a b notes) (v w : ℕ) (pair : PairOfSteps v w) where
   -- a step that is known to lie there does
-  pub known-lies : (may : Bool) (n : ℕ) → n ≡ knownAt may v w notes → n ≡ 1 → true ≡ (may && childrenLie (stepsIn a) v (stepsIn b) w)
+  pub known-lies : (may : Bool) {n : ℕ} → n ≡ knownAt may v w notes → n ≡ 1 → true ≡ (may && childrenLie (stepsIn a) v (stepsIn b) w)
   unfolding knownAt pick
-  known-lies true n e q = sym (h .lie v w (pair .0) (pair .1) (pair .2) (pair .3) (sym e ∙ q))
-  known-lies false n e q = absurd (omega arith)
+  known-lies true e q = sym (h .lie v w (pair .0) (pair .1) (pair .2) (pair .3) (sym e ∙ q))
+  known-lies false e q = absurd (omega arith)
 
   -- and one that is known not to doesn't
-  pub known-doesn't : (may : Bool) (n : ℕ) → n ≡ knownAt may v w notes → n ≡ 2 → false ≡ (may && childrenLie (stepsIn a) v (stepsIn b) w)
+  pub known-doesn't : (may : Bool) {n : ℕ} → n ≡ knownAt may v w notes → n ≡ 2 → false ≡ (may && childrenLie (stepsIn a) v (stepsIn b) w)
   unfolding knownAt pick
-  known-doesn't true n e q = sym (h .don't v w (pair .0) (pair .1) (pair .2) (pair .3) (sym e ∙ q))
-  known-doesn't false n e q = refl
+  known-doesn't true e q = sym (h .don't v w (pair .0) (pair .1) (pair .2) (pair .3) (sym e ∙ q))
+  known-doesn't false e q = refl
 
   -- what was decided, put as a note, keeps the notes right
   note-put : (r : Bool) → r ≡ childrenLie (stepsIn a) v (stepsIn b) w → Noted a b (set notes (cellOf v w) (noteOf r))
@@ -100,14 +100,16 @@ module _ (a b : Pattern) (notes : List ℕ) (h : Noted a b notes) (v w : ℕ) (p
     first = h .first;
     second = h .second;
     full = length-set notes (cellOf v w) (noteOf r) ∙ h .full;
-    lie = cell-filled (λ x y m. m ≡ 1 → childrenLie (stepsIn a) x (stepsIn b) y ≡ true) notes v w (noteOf r) 0 (h .full) (pair .0) (pair .1) (pair .2) (pair .3) (λ q. sym e ∙ noted-yes r q) (h .lie);
-    don't = cell-filled (λ x y m. m ≡ 2 → childrenLie (stepsIn a) x (stepsIn b) y ≡ false) notes v w (noteOf r) 0 (h .full) (pair .0) (pair .1) (pair .2) (pair .3) (λ q. sym e ∙ noted-no r q) (h .don't);
+    lie = cell-filled (λ x y m. m ≡ 1 → childrenLie (stepsIn a) x (stepsIn b) y ≡ true) notes v w pair (noteOf r) 0 (h .full)
+        (λ q. sym e ∙ noted-yes r q) (h .lie);
+    don't = cell-filled (λ x y m. m ≡ 2 → childrenLie (stepsIn a) x (stepsIn b) y ≡ false) notes v w pair (noteOf r) 0 (h .full)
+        (λ q. sym e ∙ noted-no r q) (h .don't);
   }
 
   -- otherwise its children decide, and their answer is noted
-  pub children-decide : (may : Bool) (n : ℕ) (before after : List ℕ) → n ≡ knownAt may v w before → (n ≡ 2 → ⊥) → (lie r : Bool) → lie ≡ childrenLie (stepsIn a) v (stepsIn b) w
-      → (r ≡ lie) × (after ≡ set notes (cellOf v w) (noteOf lie))
+  pub children-decide : (may : Bool) (before : List ℕ) {n : ℕ} → n ≡ knownAt may v w before → (n ≡ 2 → ⊥)
+      → {lie r : Bool} {after : List ℕ} → lie ≡ childrenLie (stepsIn a) v (stepsIn b) w → (r ≡ lie) × (after ≡ set notes (cellOf v w) (noteOf lie))
       → (r ≡ (may && childrenLie (stepsIn a) v (stepsIn b) w)) × Noted a b after
   unfolding knownAt pick
-  children-decide true n before after e o lie r d put = (put .0 ∙ d, rw (put .1) (note-put lie d))
-  children-decide false n before after e o lie r d put = absurd (o e)
+  children-decide true before e o {lie} d put = (put .0 ∙ d, rw (put .1) (note-put lie d))
+  children-decide false before e o d put = absurd (o e)

@@ -70,7 +70,9 @@ module _ (passes : Axis → ℕ → Forest → Bool) (w : ℕ) where
       let beside = far-block p (suc k + size kids) later after l (omega arith) o′ in
       let same : placeFrom far passes w (suc k + size kids + size later) after ≡ placeFrom far passes w (k + suc (size kids + size later)) after
       = ap (λ (n : ℕ). placeFrom far passes w n after) (omega arith) in
-      at-step far passes w k p a m kids later after l h o ∙ (cc) ∙ or-or (passes a m kids) (finds far passes kids) (finds far passes later) (placeFrom far passes w (k + suc (size kids + size later)) after)
+      at-step far passes w k p a m kids later after l h o
+      ∙ (cc)
+      ∙ or-or (passes a m kids) (finds far passes kids) (finds far passes later) (placeFrom far passes w (k + suc (size kids + size later)) after)
 
   -- a near step's search passes over a block that is deeper
   near-inside : (p k : ℕ) (f : Forest) (after : List Step) → w < p → p < k → Outside p (k + size f) after

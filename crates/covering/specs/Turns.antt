@@ -1,106 +1,126 @@
 -- One law for each way through the two loops: what is left of the steps from here on answers what all of them answer.
 use Prim.Native.Nat.{ℕ, suc, _+_, _-_, _≤_, _<_}
-use mathlib.Core.Path.{_≡_, sym, _∙_, ap}
+use mathlib.Core.Path.{_≡_, refl, sym, _∙_}
 use mathlib.Core.Bool.{Bool, true, false, _&&_, _||_, and-assoc}
 use mathlib.Core.List.{List}
+use native.Mathlib.Omega.{arith}
 use native.Mathlib.Numerals.{add-one}
 use lib.ListN.{drop}
 use borrow.Author.Tests.{lt-ltb, le-ltb}
 use Rattle.base.specs.Choice.{pick}
 use Rattle.meaning.specs.Forest.{axisOf}
 use Rattle.meaning.specs.Satisfying.{anyOrSame}
-use Rattle.meaning.specs.Covering.{stepAt, mayLie, fitsAt, lays}
+use Rattle.meaning.specs.Covering.{stepAt, fitsAt, lays}
 use Rattle.meaning.specs.declared.Step.{Step}
 use Rattle.laws.specs.Children.{childrenFrom, childrenOf}
 use Rattle.shapes.specs.Shapes.{stepsIn, SoundPattern}
 use Rattle.shapes.specs.Steps.{stepIn, step-at, step-number, steps-from, steps-end, block-in, child-here, child-not, children-end}
 use Rattle.shapes.specs.declared.Pattern.{Pattern}
-use Rattle.covering.specs.Places.{inReach, placeFrom, tried, place-found}
+use Rattle.covering.specs.Places.{placeFrom, tried, place-found}
 use Rattle.covering.specs.Questions.{childrenLie, fitsStep, someFits, mayLieBelow, liesAt}
 
 -- all children of step v among the steps from place k on find a place below step w
 unfoldable pub restLie : List Step → ℕ → ℕ → List Step → ℕ → Bool
 restLie a v k b w = lays (childrenFrom a v k) (childrenOf b w)
 
-module _ (p : Pattern) (sound : SoundPattern p) (v k : ℕ) (b : List Step) (w : ℕ) (whole : Bool) where
+-- the loop over the children of v has come to place k: those from there on answer what all answer
+pub record Laying (p : Pattern) (v : ℕ) (b : List Step) (w k : ℕ) : Type 0 where
+  pub sound : SoundPattern p
+  pub from : v ≤ k
+  pub upto : k ≤ p .count
+  pub rest : restLie (stepsIn p) v k b w ≡ childrenLie (stepsIn p) v b w
+
+-- it starts right after v
+pub laying-starts : (p : Pattern) (v : ℕ) (b : List Step) (w : ℕ) → SoundPattern p → v ≤ p .count → Laying p v b w v
+unfolding restLie childrenLie childrenOf
+laying-starts p v b w sound h = record { sound = sound; from = omega arith; upto = h; rest = refl }
+
+module _ {p : Pattern} {v : ℕ} {b : List Step} {w k : ℕ} (i : Laying p v b w k) where
+  -- one step on
+  further : k < p .count → restLie (stepsIn p) v (k + 1) b w ≡ childrenLie (stepsIn p) v b w → Laying p v b w (k + 1)
+  further h e = record { sound = i .sound; from = omega (arith, i .from); upto = omega arith; rest = e }
+
   -- at a child of v
   rest-child : k < p .count → stepIn p k .parent ≡ v
       → restLie (stepsIn p) v k b w ≡ (someFits (stepsIn p) (k + 1) b w && restLie (stepsIn p) v (k + 1) b w)
   unfolding restLie lays someFits fitsStep
-  rest-child h e = rw (child-here p sound v k h e, add-one, step-at p sound k h)
-
-  -- at another step
-  rest-other : k < p .count → (stepIn p k .parent ≡ v → ⊥) → restLie (stepsIn p) v k b w ≡ restLie (stepsIn p) v (k + 1) b w
-  unfolding restLie
-  rest-other h e = rw (child-not p sound v k h e)
+  rest-child h e = rw (child-here p (i .sound) v k h e, add-one, step-at p (i .sound) k h)
 
   -- a child finds a place
-  pub child-lies : (r : Bool) → k < p .count → stepIn p k .parent ≡ v → r ≡ someFits (stepsIn p) (k + 1) b w → r ≡ true
-      → restLie (stepsIn p) v k b w ≡ whole → restLie (stepsIn p) v (k + 1) b w ≡ whole
-  child-lies r h e q t i = sym (rest-child h e ∙ rw (← q, t)) ∙ i
+  pub child-lies : k < p .count → stepIn p k .parent ≡ v → {r : Bool} → r ≡ someFits (stepsIn p) (k + 1) b w → r ≡ true → Laying p v b w (k + 1)
+  child-lies h e q t = further h (sym (rest-child h e ∙ rw (← q, t)) ∙ i .rest)
 
   -- a child finds none
-  pub child-doesn't : (r : Bool) → k < p .count → stepIn p k .parent ≡ v → r ≡ someFits (stepsIn p) (k + 1) b w → r ≡ false
-      → restLie (stepsIn p) v k b w ≡ whole → false ≡ whole
-  child-doesn't r h e q t i = sym (rest-child h e ∙ rw (← q, t)) ∙ i
+  pub child-doesn't : k < p .count → stepIn p k .parent ≡ v → {r : Bool} → r ≡ someFits (stepsIn p) (k + 1) b w → r ≡ false
+      → false ≡ childrenLie (stepsIn p) v b w
+  child-doesn't h e q t = sym (rest-child h e ∙ rw (← q, t)) ∙ i .rest
 
   -- no child of v
-  pub no-child : k < p .count → (stepIn p k .parent ≡ v → ⊥) → restLie (stepsIn p) v k b w ≡ whole → restLie (stepsIn p) v (k + 1) b w ≡ whole
-  no-child h e i = sym (rest-other h e) ∙ i
+  pub no-child : k < p .count → (stepIn p k .parent ≡ v → ⊥) → Laying p v b w (k + 1)
+  unfolding restLie
+  no-child h e = further h (rw (child-not p (i .sound) v k h e) at (i .rest))
 
   -- none is left
-  pub all-lay : p .count ≤ k → restLie (stepsIn p) v k b w ≡ whole → true ≡ whole
+  pub all-lay : p .count ≤ k → true ≡ childrenLie (stepsIn p) v b w
   unfolding restLie lays
-  all-lay h i = sym (rw (children-end p sound v k h)) ∙ i
+  all-lay h = rw (children-end p (i .sound) v k h) at (i .rest)
 
 -- some place from place u on, below step w, fits step s, which is number k of A
 unfoldable pub restFits : List Step → ℕ → Step → List Step → ℕ → ℕ → Bool
 restFits a k s b w u = placeFrom (axisOf (s .axis)) (fitsStep a k s) w (suc u) (drop u b)
 
--- the search starts right after w
-pub search-starts : (p : Pattern) → SoundPattern p → (a : List Step) (k : ℕ) (s : Step) (w : ℕ) → w ≤ p .count → s ≡ stepAt a k
-    → restFits a k s (stepsIn p) w w ≡ someFits a k (stepsIn p) w
+-- the search below step w has come to place u: the places from there on answer what all answer
+pub record Fitting (a : List Step) (k : ℕ) (s : Step) (p : Pattern) (w u : ℕ) : Type 0 where
+  pub sound : SoundPattern p
+  pub from : w ≤ u
+  pub upto : u ≤ p .count
+  pub rest : restFits a k s (stepsIn p) w u ≡ someFits a k (stepsIn p) w
+
+-- it starts right after w
+pub search-starts : (a : List Step) (k : ℕ) (s : Step) (p : Pattern) (w : ℕ) → SoundPattern p → w ≤ p .count → s ≡ stepAt a k → Fitting a k s p w w
 unfolding restFits someFits childrenOf childrenFrom
-search-starts p sound a k s w h e =
-    rw e (place-found (fitsStep a k (stepAt a k)) w (axisOf (stepAt a k .axis)) (drop w (stepsIn p)) (block-in p sound w h))
+search-starts a k s p w sound h e = record {
+  sound = sound;
+  from = omega arith;
+  upto = h;
+  rest = rw e (place-found (fitsStep a k (stepAt a k)) w (axisOf (stepAt a k .axis)) (drop w (stepsIn p)) (block-in p sound w h));
+}
 
-module _ (p : Pattern) (sound : SoundPattern p) (a : List Step) (k : ℕ) (s : Step) (w u : ℕ) (whole : Bool) where
-  -- at a step of w's block
-  rest-place : u < p .count → w ≤ stepIn p u .parent → restFits a k s (stepsIn p) w u
-      ≡ ((mayLieBelow s w (stepIn p u) && childrenLie a k (stepsIn p) (suc u)) || restFits a k s (stepsIn p) w (suc u))
-  unfolding restFits placeFrom pick tried mayLieBelow childrenLie fitsStep fitsAt childrenOf childrenFrom
-  rest-place h l =
-      rw (steps-from p sound u h, le-ltb (stepIn p u .parent) w l)
-      (ap (λ (z : Bool). z || restFits a k s (stepsIn p) w (suc u))
-      (sym
-      (and-assoc (inReach (axisOf (s .axis)) w (stepIn p u .parent))
-      (mayLie (axisOf (s .axis)) (s .label) (axisOf (stepIn p u .axis)) (stepIn p u .label))
-      (childrenLie a k (stepsIn p) (suc u)))))
-
+module _ {a : List Step} {k : ℕ} {s : Step} {p : Pattern} {w u : ℕ} (i : Fitting a k s p w u) where
   -- the block below w ends
-  pub block-ends : u < p .count → stepIn p u .parent < w → restFits a k s (stepsIn p) w u ≡ whole → false ≡ whole
+  pub block-ends : u < p .count → stepIn p u .parent < w → false ≡ someFits a k (stepsIn p) w
   unfolding restFits placeFrom pick
-  block-ends h l i = sym (rw (steps-from p sound u h, lt-ltb (stepIn p u .parent) w l)) ∙ i
-
-  -- a place fits
-  pub place-fits : (m r : Bool) → u < p .count → w ≤ stepIn p u .parent → m ≡ mayLieBelow s w (stepIn p u)
-      → r ≡ (m && childrenLie a k (stepsIn p) (u + 1)) → r ≡ true → restFits a k s (stepsIn p) w u ≡ whole → true ≡ whole
-  place-fits m r h l f q t i = sym (rest-place h l ∙ rw (← f, ← add-one, ← q, t)) ∙ i
-
-  -- a place doesn't
-  pub place-doesn't : (m r : Bool) → u < p .count → w ≤ stepIn p u .parent → m ≡ mayLieBelow s w (stepIn p u)
-      → r ≡ (m && childrenLie a k (stepsIn p) (u + 1)) → r ≡ false → restFits a k s (stepsIn p) w u ≡ whole
-      → restFits a k s (stepsIn p) w (u + 1) ≡ whole
-  place-doesn't m r h l f q t i = rw add-one (sym (rest-place h l ∙ rw (← f, ← add-one, ← q, t)) ∙ i)
+  block-ends h l = rw (steps-from p (i .sound) u h, lt-ltb (stepIn p u .parent) w l) at (i .rest)
 
   -- the steps end
-  pub steps-done : p .count ≤ u → restFits a k s (stepsIn p) w u ≡ whole → false ≡ whole
+  pub steps-done : p .count ≤ u → false ≡ someFits a k (stepsIn p) w
   unfolding restFits placeFrom
-  steps-done h i = sym (rw (steps-end p sound u h)) ∙ i
+  steps-done h = rw (steps-end p (i .sound) u h) at (i .rest)
+
+  module _ (h : u < p .count) (l : w ≤ stepIn p u .parent) where
+    -- at a step of w's block
+    rest-place : restFits a k s (stepsIn p) w u
+        ≡ ((mayLieBelow s w (stepIn p u) && childrenLie a k (stepsIn p) (suc u)) || restFits a k s (stepsIn p) w (suc u))
+    unfolding restFits placeFrom pick tried mayLieBelow childrenLie fitsStep fitsAt childrenOf childrenFrom
+    rest-place = rw (steps-from p (i .sound) u h, le-ltb (stepIn p u .parent) w l, and-assoc)
+
+    module _ {m r : Bool} (may : m ≡ mayLieBelow s w (stepIn p u)) (is : r ≡ (m && childrenLie a k (stepsIn p) (u + 1))) where
+      -- the place fits
+      pub place-fits : r ≡ true → true ≡ someFits a k (stepsIn p) w
+      place-fits t = sym (rest-place ∙ rw (← may, ← add-one, ← is, t)) ∙ i .rest
+
+      -- it doesn't
+      pub place-doesn't : r ≡ false → Fitting a k s p w (u + 1)
+      place-doesn't t = record {
+        sound = i .sound;
+        from = omega (arith, i .from);
+        upto = omega arith;
+        rest = rw add-one (sym (rest-place ∙ rw (← may, ← add-one, ← is, t)) ∙ i .rest);
+      }
 
 -- a step can be laid at another exactly if its label fits and its children lie
-pub label-and-children : (p q : Pattern) → SoundPattern p → SoundPattern q → (v w : ℕ) → 1 ≤ v → v ≤ p .count → 1 ≤ w → w ≤ q .count
-    → (m r : Bool) → m ≡ anyOrSame (stepIn p (v - 1) .label) (stepIn q (w - 1) .label) → r ≡ (m && childrenLie (stepsIn p) v (stepsIn q) w)
+pub label-and-children : {p q : Pattern} → SoundPattern p → SoundPattern q → (v w : ℕ) → 1 ≤ v → v ≤ p .count → 1 ≤ w → w ≤ q .count
+    → {m r : Bool} → m ≡ anyOrSame (stepIn p (v - 1) .label) (stepIn q (w - 1) .label) → r ≡ (m && childrenLie (stepsIn p) v (stepsIn q) w)
     → r ≡ liesAt (stepsIn p) v (stepsIn q) w
 unfolding liesAt
-label-and-children p q sp sq v w hv lv hw lw m r fits e = rw (fits, step-number p sp v hv lv, step-number q sq w hw lw) at e
+label-and-children {p} {q} sp sq v w hv lv hw lw fits e = rw (fits, step-number p sp v hv lv, step-number q sq w hw lw) at e

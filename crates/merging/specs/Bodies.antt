@@ -90,6 +90,5 @@ module _ {p q : Pattern} {memo : List (List ℕ)} (v w : ℕ) (pair : PairOfStep
   unfolding Slot
   body-kept bs new = record {
     full = length-set memo (cellOf v w) bs ∙ h .full;
-    right = cell-filled (λ x y. Slot (bodyFor (stepsIn p) (stepsIn q) x y)) memo v w bs [] (h .full) (pair .0) (pair .1) (pair .2) (pair .3)
-        (λ filled. new) (h .right);
+    right = cell-filled (λ x y. Slot (bodyFor (stepsIn p) (stepsIn q) x y)) memo v w pair bs [] (h .full) (λ filled. new) (h .right);
   }

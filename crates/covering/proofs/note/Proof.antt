@@ -15,7 +15,8 @@ element-write-notes c = search needs
 returns : tie.Need-returns
 unfolding noteOf
 returns c =
-    let put : c .before .if1 .notes ≡ noteOf (c .before .before .args .lie) = ⊎-elim (λ h. rw (h .0 .taken) (h .1)) (λ h. rw (h .0 .left) (h .1)) (c .before .if1 .came) in
+    let put : c .before .if1 .notes ≡ noteOf (c .before .before .args .lie) =
+    ⊎-elim (λ h. rw (h .0 .taken) (h .1)) (λ h. rw (h .0 .left) (h .1)) (c .before .if1 .came) in
     (refl, cc)
 
 pub note-spec : {M : Type 1} → statement M
