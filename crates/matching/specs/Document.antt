@@ -4,7 +4,7 @@ use mathlib.Core.Path.{_≡_, sym, _∙_}
 use mathlib.Core.List.{List}
 use mathlib.Core.Bool.{Bool}
 use native.Mathlib.Omega.{arith}
-use lib.ListN.{getD}
+use lib.ListN.{length, getD}
 use Rattle.meaning.specs.Forest.{parentIn}
 use Rattle.meaning.specs.Satisfying.{parentsOf, satisfies}
 use Rattle.shapes.specs.declared.Pattern.{Pattern}
@@ -29,11 +29,17 @@ module _ (bs : List ℕ) (at n : ℕ) (p : Pattern) (sound : SoundPattern p) (ri
   parent-lower k h = rw (← parent-at bs at n k h) (rising .low k (omega (arith, length-parentsOf (nodesAt bs at n), length-nodesAt bs at n)))
 
   -- one node more
-  pub notes-go-on : (cells cells' : List ℕ) (u up label k : ℕ) → u ≡ suc k → u ≤ n → up ≡ getD bs (at + 3 * k) 0 + 256 * getD bs (at + 3 * k + 1) 0 → label ≡ getD bs (at + 3 * k + 2) 0 → Filled (nodesAt bs at n) (stepsIn p) u cells → Gave cells cells' (stepsIn p) u up label → Filled (nodesAt bs at n) (stepsIn p) k cells'
-  notes-go-on cells cells' u up label k e h a b f g =
-      fill-goes-on (nodesAt bs at n) (stepsIn p) rising (few-steps p sound) cells cells' k up label (omega (arith, length-nodesAt bs at n)) (rw e at f) (a ∙ sym (parent-at bs at n k (omega arith))) (b ∙ sym (label-at bs at n k (omega arith))) (rw e at g)
+  pub notes-go-on : {cells cells' : List ℕ} {u up label : ℕ} (k : ℕ) → u ≡ suc k → u ≤ n
+      → up ≡ getD bs (at + 3 * k) 0 + 256 * getD bs (at + 3 * k + 1) 0 → label ≡ getD bs (at + 3 * k + 2) 0
+      → Filled (nodesAt bs at n) (stepsIn p) u cells → Gave cells cells' (stepsIn p) u up label → Filled (nodesAt bs at n) (stepsIn p) k cells'
+  notes-go-on k e h a b f g =
+      let there : suc k ≤ length (nodesAt bs at n) = omega (arith, length-nodesAt bs at n) in
+      let up-is = a ∙ sym (parent-at bs at n k (omega arith)) in
+      let label-is = b ∙ sym (label-at bs at n k (omega arith)) in
+      fill-goes-on (nodesAt bs at n) (stepsIn p) rising (few-steps p sound) _ _ k _ _ there (rw e at f) up-is label-is (rw e at g)
 
   -- after the last node the root steps' notes are the answer
-  pub notes-end : (cells : List ℕ) (r : Bool) → Filled (nodesAt bs at n) (stepsIn p) 0 cells → r ≡ kidsHold (noted cells 0) 0 1 (stepsIn p) → r ≡ satisfies (nodesAt bs at n) (patternOf p)
+  pub notes-end : (cells : List ℕ) (r : Bool) → Filled (nodesAt bs at n) (stepsIn p) 0 cells → r ≡ kidsHold (noted cells 0) 0 1 (stepsIn p)
+      → r ≡ satisfies (nodesAt bs at n) (patternOf p)
   unfolding patternOf
   notes-end cells r f e = e ∙ fill-ends (nodesAt bs at n) (stepsIn p) rising (few-steps p sound) cells f

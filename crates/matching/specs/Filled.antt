@@ -107,7 +107,8 @@ module _ (ns : List Node) (ss : List Step) (rising : Rising (parentsOf ns)) wher
       let fitting = fitsAt ns ss k w in
       go w low high (and-first child (below || fitting) e) (or-cases below fitting (and-second child (below || fitting) e))
     where
-      go : (w : ℕ) → 1 ≤ w → w < 1 + length ns → isChild (parentsOf ns) t w ≡ true → ((isFar ss k && stepHolds ns ss w k) ≡ true) ⊎ (fitsAt ns ss k w ≡ true) → stepHolds ns ss t k ≡ true
+      go : (w : ℕ) → 1 ≤ w → w < 1 + length ns → isChild (parentsOf ns) t w ≡ true
+          → ((isFar ss k && stepHolds ns ss w k) ≡ true) ⊎ (fitsAt ns ss k w ≡ true) → stepHolds ns ss t k ≡ true
       go w low high c (inl b) =
           let x = far-axis (stepAt ss k .axis) (and-first (isFar ss k) (stepHolds ns ss w k) b) in
           let (v, by) = holds-by w k (and-second (isFar ss k) (stepHolds ns ss w k) b) in
@@ -123,10 +124,12 @@ module _ (ns : List Node) (ss : List Step) (rising : Rising (parentsOf ns)) wher
   unfolding reaches
   holds-given t k h = let (u, by) = holds-by t k h in go u by (axis-cases (stepAt ss k .axis))
     where
-      below : (u : ℕ) → HoldsBy t k u → axisAt ss k ≡ far → isFar ss k ≡ true → (isChild (parentsOf ns) t u ≡ true) ⊎ ByChild (parentsOf ns) t (λ w. reaches far (parentsOf ns) w u) → givenBelow ns ss t k ≡ true
+      below : (u : ℕ) → HoldsBy t k u → axisAt ss k ≡ far → isFar ss k ≡ true
+          → (isChild (parentsOf ns) t u ≡ true) ⊎ ByChild (parentsOf ns) t (λ w. reaches far (parentsOf ns) w u) → givenBelow ns ss t k ≡ true
       below u by x y (inl c) = gives-fitting t k u (by .low) (by .high) c (by .fitting)
       below u by x y (inr (w, m, c, b)) =
-          gives-far t k w (omega (arith, length-parentsOf ns)) c y (by-holds w k u (record { low = by .low; high = by .high; reached = rw x b; fitting = by .fitting }))
+          let by-child = by-holds w k u (record { low = by .low; high = by .high; reached = rw x b; fitting = by .fitting }) in
+          gives-far t k w (omega (arith, length-parentsOf ns)) c y by-child
 
       go : (u : ℕ) → HoldsBy t k u → (axisAt ss k ≡ near) ⊎ ((axisAt ss k ≡ far) × (isFar ss k ≡ true)) → givenBelow ns ss t k ≡ true
       go u by (inl x) = gives-fitting t k u (by .low) (by .high) (rw x at (by .reached)) (by .fitting)

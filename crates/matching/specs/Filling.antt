@@ -12,7 +12,7 @@ use lib.ListN.{length, getD, drop, length-drop}
 use lib.Seq.{getD-drop, drop-drop}
 use Rattle.base.specs.Choice.{pick}
 use Rattle.base.specs.Lists.{some, numbersFrom}
-use Rattle.meaning.specs.Forest.{step, axisOf, childrenIn, forest, parentIn, isChild}
+use Rattle.meaning.specs.Forest.{Forest, step, axisOf, childrenIn, forest, parentIn, isChild}
 use Rattle.meaning.specs.Sections.{Node}
 use Rattle.meaning.specs.Satisfying.{parentsOf, labelIn, fitsBelow, holdBelow, satisfies}
 use Rattle.meaning.specs.Covering.{stepAt}
@@ -26,10 +26,11 @@ use Rattle.matching.specs.Filled.{stepHolds, givenBy, Filled, done-below
 
 module _ (ns : List Node) (ss : List Step) (rising : Rising (parentsOf ns)) (few : length ss ≤ 16) where
   -- every child step of q holds, by what is noted of each, exactly if the forest of these steps holds
-  kids-are : (h : ℕ → Bool) (t : ℕ) → ((k : ℕ) → StepNumber k → k ≤ length ss → h k ≡ stepHolds ns ss t k) → (q j : ℕ) (rest : List Step) → drop j ss ≡ rest → kidsHold h q (suc j) rest ≡ holdBelow ns (childrenIn q (suc j) rest) t
+  kids-are : (h : ℕ → Bool) (t : ℕ) → ((k : ℕ) → StepNumber k → k ≤ length ss → h k ≡ stepHolds ns ss t k)
+      → (q j : ℕ) (rest : List Step) → drop j ss ≡ rest → kidsHold h q (suc j) rest ≡ holdBelow ns (childrenIn q (suc j) rest) t
   unfolding kidsHold holdBelow childrenIn pick stepHolds childrenOf childrenFrom stepAt
   kids-are h t say q j [] e = refl
-  kids-are h t say q j (s ∷ rest) e = go (eqb (s .parent) q) (kids-are h t say q (suc j) rest next)
+  kids-are h t say q j (s ∷ rest) e = go (eqb (s .parent) q) _ _ (kids-are h t say q (suc j) rest next)
     where
       next : drop (suc j) ss ≡ rest
       next = ap (λ j'. drop j' ss) (sym (add-one j)) ∙ sym (drop-drop 1 j ss) ∙ ap (λ (xs : List Step). drop 1 xs) e
@@ -39,14 +40,18 @@ module _ (ns : List Node) (ss : List Step) (rising : Rising (parentsOf ns)) (few
           let d : Step = record { parent = 0; axis = 0; label = 0 } in
           ap (λ i. getD ss i d) (sym (add-zero j)) ∙ sym (getD-drop j ss 0 d) ∙ ap (λ (xs : List Step). getD xs 0 d) e
 
-      here : h (suc j) ≡ some (fitsBelow ns t (axisOf (s .axis)) (s .label) (holdBelow ns (childrenIn (suc j) (suc (suc j)) rest))) (numbersFrom 1 (length ns))
+      kids : Forest
+      kids = childrenIn (suc j) (suc (suc j)) rest
+
+      here : h (suc j) ≡ some (fitsBelow ns t (axisOf (s .axis)) (s .label) (holdBelow ns kids)) (numbersFrom 1 (length ns))
       here =
           let there : suc j ≤ length ss = omega (arith, length-drop j ss, ap length e) in
           say (suc j) (record { low = omega arith; high = omega arith }) there ∙ rw (this, next)
 
-      go : (b : Bool) → kidsHold h q (suc (suc j)) rest ≡ holdBelow ns (childrenIn q (suc (suc j)) rest) t → pick b (h (suc j) && kidsHold h q (suc (suc j)) rest) (kidsHold h q (suc (suc j)) rest) ≡ holdBelow ns (pick b (step (axisOf (s .axis)) (s .label) (childrenIn (suc j) (suc (suc j)) rest) (childrenIn q (suc (suc j)) rest)) (childrenIn q (suc (suc j)) rest)) t
-      go true later = rw (here, later)
-      go false later = later
+      go : (b all : Bool) (others : Forest) → all ≡ holdBelow ns others t
+          → pick b (h (suc j) && all) all ≡ holdBelow ns (pick b (step (axisOf (s .axis)) (s .label) kids others) others) t
+      go true all others later = rw (here, later)
+      go false all others later = later
 
   -- before the first node nothing is noted
   pub fill-starts : Filled ns ss (length ns) blank
@@ -62,7 +67,8 @@ module _ (ns : List Node) (ss : List Step) (rising : Rising (parentsOf ns)) (few
     say k m h = done-below ns ss rising cells (suc u) k there f m h
 
     -- what the node gives by the notes is what it gives
-    gives-it : (t k : ℕ) → StepNumber k → k ≤ length ss → up ≡ parentIn (parentsOf ns) (suc u) → label ≡ labelIn ns (suc u) → (eqb up t && givesAt (noted cells (suc u)) label ss k) ≡ givenBy ns ss t k (suc u)
+    gives-it : (t k : ℕ) → StepNumber k → k ≤ length ss → up ≡ parentIn (parentsOf ns) (suc u) → label ≡ labelIn ns (suc u)
+        → (eqb up t && givesAt (noted cells (suc u)) label ss k) ≡ givenBy ns ss t k (suc u)
     unfolding givesAt givenBy isChild parentIn childrenOf childrenFrom
     gives-it t k m h e n = rw (e, n, kids-are (noted cells (suc u)) (suc u) say k k (drop k ss) refl, say k m h)
 
@@ -75,7 +81,8 @@ module _ (ns : List Node) (ss : List Step) (rising : Rising (parentsOf ns)) (few
 
         notes : (t k : ℕ) → StepNumber k → k ≤ length ss → noted cells' t k ≡ some (givenBy ns ss t k) (numbersFrom (suc u) (length ns - u))
         notes t k m h =
-            g .notes t k m h ∙ rw (gives-it t k m h e n, f .notes t k m h, one-more) (or-comm (some (givenBy ns ss t k) (numbersFrom (suc (suc u)) (length ns - suc u))) (givenBy ns ss t k (suc u)))
+            let others = some (givenBy ns ss t k) (numbersFrom (suc (suc u)) (length ns - suc u)) in
+            g .notes t k m h ∙ rw (gives-it t k m h e n, f .notes t k m h, one-more) (or-comm others (givenBy ns ss t k (suc u)))
 
   -- after the last node the root steps' notes are the answer
   pub fill-ends : (cells : List ℕ) → Filled ns ss 0 cells → kidsHold (noted cells 0) 0 1 ss ≡ satisfies ns (forest ss)

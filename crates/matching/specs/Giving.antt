@@ -26,7 +26,9 @@ kidsHold holds q k [] = true
 kidsHold holds q k (s ∷ ss) = let later = kidsHold holds q (suc k) ss in pick (eqb (s .parent) q) (holds k && later) later
 
 -- what the child steps are from one step earlier on
-pub kids-from : (ss : List Step) (h : ℕ → Bool) (q j : ℕ) → j < length ss → kidsHold h q (suc j) (drop j ss) ≡ pick (eqb (stepAt ss (suc j) .parent) q) (h (suc j) && kidsHold h q (suc (suc j)) (drop (suc j) ss)) (kidsHold h q (suc (suc j)) (drop (suc j) ss))
+pub kids-from : (ss : List Step) (h : ℕ → Bool) (q j : ℕ) → j < length ss
+    → kidsHold h q (suc j) (drop j ss)
+    ≡ (let later = kidsHold h q (suc (suc j)) (drop (suc j) ss) in pick (eqb (stepAt ss (suc j) .parent) q) (h (suc j) && later) later)
 unfolding kidsHold stepAt
 kids-from ss h q j l = rw (drop-cons ss j (record { parent = 0; axis = 0; label = 0 }) l)
 
@@ -53,5 +55,7 @@ pub record Weighed (cells lacks cells' lacks' : List ℕ) (s : Step) (k u up lab
   pub lacking : lacks' ≡ pick (noted cells u k) lacks (set lacks (s .parent) 1)
 
 -- the notes after a step, from what the calls on the way gave
-pub weighed : {cells lacks cells' lacks' : List ℕ} {s : Step} {k u up label : ℕ} {below given : Bool} → below ≡ noted cells u k → given ≡ gives s label (noLack lacks k) below → NotedToo cells cells' up k given → lacks' ≡ pick below lacks (set lacks (s .parent) 1) → Weighed cells lacks cells' lacks' s k u up label
+pub weighed : {cells lacks cells' lacks' : List ℕ} {s : Step} {k u up label : ℕ} {below given : Bool}
+    → below ≡ noted cells u k → given ≡ gives s label (noLack lacks k) below → NotedToo cells cells' up k given
+    → lacks' ≡ pick below lacks (set lacks (s .parent) 1) → Weighed cells lacks cells' lacks' s k u up label
 weighed b g n l = record { notes = rw (g, b) at n; lacking = rw b at l }

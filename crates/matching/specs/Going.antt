@@ -21,18 +21,23 @@ pub record Gave (before after : List ℕ) (ss : List Step) (u up label : ℕ) : 
   pub full : Whole after
   pub notes : (t k : ℕ) → StepNumber k → k ≤ length ss → noted after t k ≡ (noted before t k || (eqb up t && givesAt (noted before u) label ss k))
 
+-- what is so noted of step k below t
+abbrev pub noteAfter : List ℕ → List Step → ℕ → ℕ → ℕ → ℕ → ℕ → Bool
+noteAfter before ss u up label t k = noted before t k || (eqb up t && givesAt (noted before u) label ss k)
+
 -- in that turn, when the steps above number k are done
 pub record Going (before cells lacks : List ℕ) (ss : List Step) (u up label k : ℕ) : Type 0 where
   pub low : k ≤ length ss
   pub full : Whole cells
   pub lacksFull : length lacks ≡ 17
   pub lacking : (q : ℕ) → q ≤ 16 → noLack lacks q ≡ kidsHold (noted before u) q (suc k) (drop k ss)
-  pub passed : (t k' : ℕ) → StepNumber k' → k < k' → k' ≤ length ss → noted cells t k' ≡ (noted before t k' || (eqb up t && givesAt (noted before u) label ss k'))
+  pub passed : (t k' : ℕ) → StepNumber k' → k < k' → k' ≤ length ss → noted cells t k' ≡ noteAfter before ss u up label t k'
   pub ahead : (t k' : ℕ) → StepNumber k' → k' ≤ k → noted cells t k' ≡ noted before t k'
 
 module _ (before : List ℕ) (ss : List Step) (u up label : ℕ) (few : length ss ≤ 16) where
   -- what another step's turn notes leaves a step's notes as they are
-  same : {cells cells' : List ℕ} {k : ℕ} {b : Bool} → NotedToo cells cells' up k b → (t k' : ℕ) → StepNumber k' → (k ≡ k' → ⊥) → noted cells' t k' ≡ noted cells t k'
+  same : {cells cells' : List ℕ} {k : ℕ} {b : Bool} → NotedToo cells cells' up k b → (t k' : ℕ) → StepNumber k' → (k ≡ k' → ⊥)
+      → noted cells' t k' ≡ noted cells t k'
   same {cells} {cells'} {k} {b} n t k' m h = n .notes t k' m ∙ go (eqb up t) (eqb k k') (ne-eqb k k' h)
     where
       go : (a c : Bool) → c ≡ false → (noted cells t k' || (a && (c && b))) ≡ noted cells t k'
@@ -40,7 +45,8 @@ module _ (before : List ℕ) (ss : List Step) (u up label : ℕ) (few : length s
       go false c e = or-false (noted cells t k')
 
   -- a step that does not hold is one that its parent step lacks
-  lacks-one : (lacks rest : List ℕ) (q r : ℕ) (h : Bool) → length lacks ≡ 17 → q ≤ 16 → rest ≡ pick h lacks (set lacks r 1) → noLack rest q ≡ pick (eqb r q) (h && noLack lacks q) (noLack lacks q)
+  lacks-one : (lacks rest : List ℕ) (q r : ℕ) (h : Bool) → length lacks ≡ 17 → q ≤ 16 → rest ≡ pick h lacks (set lacks r 1)
+      → noLack rest q ≡ pick (eqb r q) (h && noLack lacks q) (noLack lacks q)
   unfolding noLack pick
   lacks-one lacks rest q r h l m e = ap (λ x. noLack x q) e ∙ go h (eqb r q) refl
     where
@@ -52,7 +58,8 @@ module _ (before : List ℕ) (ss : List Step) (u up label : ℕ) (few : length s
           ap (λ i. eqb (getD (set lacks r 1) i 0) 0) at ∙ ap (λ v. eqb v 0) (getD-set-same lacks r 1 0 (omega arith))
       go false false e = ap (λ v. eqb v 0) (getD-set-other lacks r q 1 0 (λ h. eqb-false r q e (sym h)))
 
-  module _ (cells lacks cells' lacks' : List ℕ) (j : ℕ) (g : Going before cells lacks ss u up label (suc j)) (w : Weighed cells lacks cells' lacks' (stepAt ss (suc j)) (suc j) u up label) where
+  module _ (cells lacks cells' lacks' : List ℕ) (j : ℕ) (g : Going before cells lacks ss u up label (suc j))
+      (w : Weighed cells lacks cells' lacks' (stepAt ss (suc j)) (suc j) u up label) where
     number : StepNumber (suc j)
     number = record { low = omega arith; high = omega (arith, g .low) }
 
@@ -72,14 +79,16 @@ module _ (before : List ℕ) (ss : List Step) (u up label : ℕ) (few : length s
         lacks-one lacks lacks' q (stepAt ss (suc j) .parent) (noted cells u (suc j)) (g .lacksFull) m (w .lacking)
         ∙ (rw (g .lacking q m, below) (sym (kids-from ss (noted before u) q j (g .low))))
 
-    step-passed : (t k' : ℕ) → StepNumber k' → j < k' → k' ≤ length ss → noted cells' t k' ≡ (noted before t k' || (eqb up t && givesAt (noted before u) label ss k'))
+    step-passed : (t k' : ℕ) → StepNumber k' → j < k' → k' ≤ length ss → noted cells' t k' ≡ noteAfter before ss u up label t k'
     unfolding givesAt
     step-passed t k' m h l = ⊎-elim here later (eq-or-lt-of-le h)
       where
-        here : suc j ≡ k' → noted cells' t k' ≡ (noted before t k' || (eqb up t && givesAt (noted before u) label ss k'))
-        here e = rw (← e) (w .notes .notes t (suc j) number ∙ (rw (g .ahead t (suc j) number (omega arith), eq-eqb (suc j) (suc j) refl, g .lacking (suc j) (number .high), below)))
+        here : suc j ≡ k' → noted cells' t k' ≡ noteAfter before ss u up label t k'
+        here e =
+            let unpassed = g .ahead t (suc j) number (omega arith) in
+            rw (← e) (w .notes .notes t (suc j) number ∙ (rw (unpassed, eq-eqb (suc j) (suc j) refl, g .lacking (suc j) (number .high), below)))
 
-        later : suc j < k' → noted cells' t k' ≡ (noted before t k' || (eqb up t && givesAt (noted before u) label ss k'))
+        later : suc j < k' → noted cells' t k' ≡ noteAfter before ss u up label t k'
         later q = same (w .notes) t k' m (λ e. omega arith) ∙ g .passed t k' m q l
 
     next : Going before cells' lacks' ss u up label j
@@ -93,7 +102,8 @@ module _ (before : List ℕ) (ss : List Step) (u up label : ℕ) (few : length s
     }
 
   -- one step more
-  pub goes-on : {cells lacks cells' lacks' : List ℕ} {s : Step} {k : ℕ} (j : ℕ) → k ≡ suc j → s ≡ stepAt ss k → Going before cells lacks ss u up label k → Weighed cells lacks cells' lacks' s k u up label → Going before cells' lacks' ss u up label j
+  pub goes-on : {cells lacks cells' lacks' : List ℕ} {s : Step} {k : ℕ} (j : ℕ) → k ≡ suc j → s ≡ stepAt ss k
+      → Going before cells lacks ss u up label k → Weighed cells lacks cells' lacks' s k u up label → Going before cells' lacks' ss u up label j
   goes-on {cells} {lacks} {cells'} {lacks'} j e f g w = next cells lacks cells' lacks' j (rw e at g) (rw (f, e) at w)
 
   -- before the first step nothing is done

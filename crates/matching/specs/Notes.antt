@@ -60,11 +60,12 @@ module _ (cells : List ℕ) (t k : ℕ) (has : HasCell cells t k) where
       other : (t' k' : ℕ) → (16 * t' + k' ≡ 16 * t + k → ⊥) → noted (set cells (16 * t + k) 1) t' k' ≡ (noted cells t' k' || false)
       other t' k' h = ap (λ v. eqb v 1) (getD-set-other cells (16 * t + k) (16 * t' + k') 1 0 h) ∙ sym (or-false (noted cells t' k'))
 
-      go : (t' k' : ℕ) → StepNumber k' → (a : Bool) → eqb t t' ≡ a → (b : Bool) → eqb k k' ≡ b → noted (set cells (16 * t + k) 1) t' k' ≡ (noted cells t' k' || (a && (b && true)))
+      go : (t' k' : ℕ) → StepNumber k' → (a : Bool) → eqb t t' ≡ a → (b : Bool) → eqb k k' ≡ b
+          → noted (set cells (16 * t + k) 1) t' k' ≡ (noted cells t' k' || (a && (b && true)))
       go t' k' n true e true f =
           let at : 16 * t' + k' ≡ 16 * t + k = omega (arith, eqb-true t t' e, eqb-true k k' f) in
           let in-cells : 16 * t + k < length cells = omega (arith, has .full, has .node, has .number .high) in
-          ap (λ i. eqb (getD (set cells (16 * t + k) 1) i 0) 1) at ∙ ap (λ v. eqb v 1) (getD-set-same cells (16 * t + k) 1 0 in-cells) ∙ sym (or-true (noted cells t' k'))
+          rw (at, getD-set-same cells (16 * t + k) 1 0 in-cells, or-true)
       go t' k' n true e false f = other t' k' (λ h. eqb-false k k' f (omega (arith, eqb-true t t' e, has .number .high)))
       go t' k' n false e true f = other t' k' (λ h. eqb-false t t' e (omega (arith, eqb-true k k' f, has .number .high)))
       go t' k' n false e false f = other t' k' (λ h. eqb-false t t' e (omega (arith, has .number .low, has .number .high)))

@@ -20,7 +20,9 @@ returns-2 c =
 
 returns-3 : tie.Need-returns-3
 unfolding fits anyOrSame
-returns-3 c = rw (not-false (c .before .before .before .before .args .kids-hold) (c .before .before .before .if1 .left), ne-eqb _ _ (c .before .if2 .left), and-true)
+returns-3 c =
+    let held = c .before .before .before in
+    rw (not-false (held .before .args .kids-hold) (held .if1 .left), ne-eqb _ _ (c .before .if2 .left), and-true)
 
 pub fits-spec : {M : Type 1} → statement M
 fits-spec = tie.close (tie.spec returns returns-2 returns-3)

@@ -57,7 +57,9 @@ loop-again c =
     goes-on _ _ _ _ _ (few-steps _ sound) (l .loop .k - 1) (omega arith) here (l .loop .inv) (c .weigh .ensures)
 
 returns : tie.Need-returns Inv-loop μ-loop
-returns c = let none : c .before .loop .k ≡ 0 = omega arith in goes-end _ _ _ _ _ (few-steps _ (c .before .before .pre .0)) _ _ (rw none at (c .before .loop .inv))
+returns c =
+    let none : c .before .loop .k ≡ 0 = omega arith in
+    goes-end _ _ _ _ _ (few-steps _ (c .before .before .pre .0)) _ _ (rw none at (c .before .loop .inv))
 
 pub give-spec : {M : Type 1} → statement M
 give-spec =

@@ -5,17 +5,8 @@ use borrow.Author.Needs.{needs}
 use Rattle.matching.proofs.two_bytes.Statement.{statement}
 use Rattle.matching.proofs.two_bytes.Tie as tie
 
-shared-slice-read-result : tie.Need-shared-slice-read-result
-shared-slice-read-result c = search needs
-
 cast-result : tie.Need-cast-result
 cast-result c = omega (arith, c .shared-slice-known .given (c .before .args .a))
-
-add-result : tie.Need-add-result
-add-result c = search needs
-
-shared-slice-read-result-2 : tie.Need-shared-slice-read-result-2
-shared-slice-read-result-2 c = search needs
 
 cast-result-2 : tie.Need-cast-result-2
 cast-result-2 c = omega (arith, c .shared-slice-known2 .given (c .before .before .args .a + 1))
@@ -24,20 +15,18 @@ mul-result : tie.Need-mul-result
 mul-result c = omega (arith, c .shared-slice-known2 .given (c .before .before .args .a + 1))
 
 add-result-2 : tie.Need-add-result-2
-add-result-2 c = omega (arith, c .before .shared-slice-known .given (c .before .before .args .a), c .shared-slice-known2 .given (c .before .before .args .a + 1))
-
-returns : tie.Need-returns
-returns c = search needs
+add-result-2 c =
+    let a = c .before .before .args .a in
+    omega (arith, c .before .shared-slice-known .given a, c .shared-slice-known2 .given (a + 1))
 
 pub two-bytes-spec : {M : Type 1} → statement M
 two-bytes-spec =
     tie.close
     (tie.spec
-    shared-slice-read-result
+    (λ c. search needs)
     cast-result
-    add-result
-    shared-slice-read-result-2
+    (λ c. search needs) (λ c. search needs)
     cast-result-2
     mul-result
     add-result-2
-    returns)
+    (λ c. search needs))
