@@ -22,15 +22,21 @@ pairsOf-append [] hs js = refl
 pairsOf-append (i ∷ is) hs js =
     ap (λ (ps : List Pair). map (pair i) js ++ ps) (pairsOf-append is hs js) ∙ sym (append-assoc (map (pair i) js) (pairsOf is js) (pairsOf hs js))
 
+-- the numbers before n are below it
+below : (n : ℕ) {a : ℕ} → List·Memᴰ a (numbersFrom 0 n) → a < n
+below n m = let x = numbersFrom-gives 0 n m in omega arith
+
 module _ (p : Pair → Bool) where
   -- pairs of which the test fails are not kept
-  row-none : (i : ℕ) (js : List ℕ) (rest : List Pair) → ((j : ℕ) → List·Memᴰ j js → p (pair i j) ≡ false) → keep p (map (pair i) js ++ rest) ≡ keep p rest
+  row-none : (i : ℕ) (js : List ℕ) (rest : List Pair) → ((j : ℕ) → List·Memᴰ j js → p (pair i j) ≡ false)
+      → keep p (map (pair i) js ++ rest) ≡ keep p rest
   unfolding keep pick
   row-none i [] rest h = refl
   row-none i (j ∷ js) rest h = rw (h j (List·Memᴰ·head refl)) (row-none i js rest (λ k m. h k (List·Memᴰ·tail m)))
 
   -- so of whole rows
-  rows-none : (is js : List ℕ) (rest : List Pair) → ((i j : ℕ) → List·Memᴰ i is → List·Memᴰ j js → p (pair i j) ≡ false) → keep p (pairsOf is js ++ rest) ≡ keep p rest
+  rows-none : (is js : List ℕ) (rest : List Pair) → ((i j : ℕ) → List·Memᴰ i is → List·Memᴰ j js → p (pair i j) ≡ false)
+      → keep p (pairsOf is js ++ rest) ≡ keep p rest
   unfolding pairsOf
   rows-none [] js rest h = refl
   rows-none (i ∷ is) js rest h =
@@ -43,7 +49,7 @@ module _ (p : Pair → Bool) where
   unfolding pairsBelow keep
   no-pair n h =
       ap (keep p) (sym (append-nil (pairsOf (numbersFrom 0 n) (numbersFrom 0 n))))
-      ∙ rows-none (numbersFrom 0 n) (numbersFrom 0 n) [] (λ a b ma mb. let x = numbersFrom-gives 0 n ma in let y = numbersFrom-gives 0 n mb in h a b (omega arith) (omega arith))
+      ∙ rows-none (numbersFrom 0 n) (numbersFrom 0 n) [] (λ a b ma mb. h a b (below n ma) (below n mb))
 
   module _ (n i r : ℕ) (hi : i < n) (hr : r < n)
       (above : (a b : ℕ) → a < i → b < n → p (pair a b) ≡ false)
@@ -64,10 +70,13 @@ module _ (p : Pair → Bool) where
     -- the rows before i, row i, and those after it
     pairs-split : pairsBelow n ≡ pairsOf (numbersFrom 0 i) (numbersFrom 0 n) ++ (map (pair i) (numbersFrom 0 n) ++ later)
     unfolding pairsBelow pairsOf
-    pairs-split = ap (λ (is : List ℕ). pairsOf is (numbersFrom 0 n)) (split i hi) ∙ pairsOf-append (numbersFrom 0 i) (i ∷ numbersFrom (suc i) (n - suc i)) (numbersFrom 0 n)
+    pairs-split =
+        ap (λ (is : List ℕ). pairsOf is (numbersFrom 0 n)) (split i hi)
+        ∙ pairsOf-append (numbersFrom 0 i) (i ∷ numbersFrom (suc i) (n - suc i)) (numbersFrom 0 n)
 
     -- row i before r, the pair (i, r), and what comes after it
-    row-split : map (pair i) (numbersFrom 0 n) ++ later ≡ map (pair i) (numbersFrom 0 r) ++ (pair i r ∷ (map (pair i) (numbersFrom (suc r) (n - suc r)) ++ later))
+    row-split : map (pair i) (numbersFrom 0 n) ++ later
+        ≡ map (pair i) (numbersFrom 0 r) ++ (pair i r ∷ (map (pair i) (numbersFrom (suc r) (n - suc r)) ++ later))
     row-split =
         ap (λ (js : List ℕ). map (pair i) js ++ later) (split r hr)
         ∙ ap (λ (ps : List Pair). ps ++ later) (map-append i (numbersFrom 0 r) (r ∷ numbersFrom (suc r) (n - suc r)))
@@ -78,7 +87,7 @@ module _ (p : Pair → Bool) where
     unfolding keep pick
     first-pair =
         ap (keep p) pairs-split
-        ∙ rows-none (numbersFrom 0 i) (numbersFrom 0 n) (map (pair i) (numbersFrom 0 n) ++ later) (λ a b ma mb. let x = numbersFrom-gives 0 i ma in let y = numbersFrom-gives 0 n mb in above a b (omega arith) (omega arith))
+        ∙ rows-none (numbersFrom 0 i) (numbersFrom 0 n) _ (λ a b ma mb. above a b (below i ma) (below n mb))
         ∙ ap (keep p) row-split
-        ∙ row-none i (numbersFrom 0 r) (pair i r ∷ (map (pair i) (numbersFrom (suc r) (n - suc r)) ++ later)) (λ b mb. let y = numbersFrom-gives 0 r mb in before b (omega arith))
+        ∙ row-none i (numbersFrom 0 r) _ (λ b mb. before b (below r mb))
         ∙ rw here refl

@@ -35,7 +35,8 @@ module _ {A : Type 0} where
   -- one more is moved down
   pub moved-goes-on : (l m : List A) (j k : ℕ) (d : A) → k + 1 < length l → Moved l j k m → Moved l j (k + 1) (set m k (getD m (k + 1) d))
   moved-goes-on l m j k d h z =
-      rw (add-one k) (record { from = omega (arith, z .from); long = length-set m k (getD m (suc k) d) ∙ z .long; moved = moved (getD m (suc k) d) next; rest = rest (getD m (suc k) d) })
+      let a = getD m (suc k) d in
+      rw (add-one k) (record { from = omega (arith, z .from); long = length-set m k a ∙ z .long; moved = moved a next; rest = rest a })
     where
       next : getD m (suc k) d ≡ getD l (suc k) d
       next = rw (add-one k) at (sym (getD-drop k m 1 d) ∙ ap (λ (xs : List A). getD xs 1 d) (z .rest) ∙ getD-drop k l 1 d)

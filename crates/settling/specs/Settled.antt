@@ -53,7 +53,10 @@ up : ℕ → ℕ → ℕ
 up r k = pick (ltb k r) k (suc k)
 
 -- it is the same before r, and one more from r on
-up-is : (r k : ℕ) → ((k < r) × (up r k ≡ k)) ⊎ ((r ≤ k) × (up r k ≡ suc k))
+abbrev UpIs : ℕ → ℕ → Type 0
+UpIs r k = ((k < r) × (up r k ≡ k)) ⊎ ((r ≤ k) × (up r k ≡ suc k))
+
+up-is : (r k : ℕ) → UpIs r k
 unfolding up pick
 up-is r k = go (ltb k r) refl
   where
@@ -65,7 +68,7 @@ up-is r k = go (ltb k r) refl
 up-apart : (r a b : ℕ) → (a ≡ b → ⊥) → up r a ≡ up r b → ⊥
 up-apart r a b h q = go (up-is r a) (up-is r b)
   where
-    go : ((a < r) × (up r a ≡ a)) ⊎ ((r ≤ a) × (up r a ≡ suc a)) → ((b < r) × (up r b ≡ b)) ⊎ ((r ≤ b) × (up r b ≡ suc b)) → ⊥
+    go : UpIs r a → UpIs r b → ⊥
     go (inl x) (inl y) = omega arith
     go (inl x) (inr y) = omega arith
     go (inr x) (inl y) = omega arith
@@ -83,7 +86,7 @@ up-same r a b = go (eqb a b) refl
 without-up : {A : Type 0} (r k : ℕ) (l : List A) (d : A) → getD (without r l) k d ≡ getD l (up r k) d
 without-up {A} r k l d = go (up-is r k)
   where
-    go : ((k < r) × (up r k ≡ k)) ⊎ ((r ≤ k) × (up r k ≡ suc k)) → getD (without r l) k d ≡ getD l (up r k) d
+    go : UpIs r k → getD (without r l) k d ≡ getD l (up r k) d
     go (inl x) = without-before r k l d (x .0) ∙ ap (λ (n : ℕ). getD l n d) (sym (x .1))
     go (inr x) = without-after r k l d (x .0) ∙ ap (λ (n : ℕ). getD l n d) (sym (x .1))
 
@@ -131,7 +134,7 @@ search-starts es = record { from = omega arith; before = record { clear = clear 
     clear a b ha hb (inl h) = absurd (omega arith)
     clear a b ha hb (inr h) = absurd (omega arith)
 
-module _ (first es : List Entry) (i j : ℕ) (z : Searched first es i j) where
+module _ {first es : List Entry} {i j : ℕ} (z : Searched first es i j) where
   -- a row without such a pair
   pub search-next : i < length es → ((b : ℕ) → j ≤ b → b < length es → coversAt es i b ≡ false) → Searched first es (i + 1) 0
   search-next there row = record { from = omega arith; before = record { clear = clear }; rest = z .rest }
@@ -151,14 +154,17 @@ module _ (first es : List Entry) (i j : ℕ) (z : Searched first es i j) where
   -- all rows are clear
   pub search-ends : length es ≤ i → es ≡ settle first
   unfolding covering coversAt settle
-  search-ends h = sym (settled-stays (length es) es (no-pair (coversOther es) (length es) (λ a b ha hb. z .before .clear a b ha hb (inl (omega arith))))) ∙ z .rest
+  search-ends h =
+      let none-left = no-pair (coversOther es) (length es) (λ a b ha hb. z .before .clear a b ha hb (inl (omega arith))) in
+      sym (settled-stays (length es) es none-left) ∙ z .rest
 
   -- entry i covers entry r, the first such from j on
-  module _ (r : ℕ) (hi : i < length es) (hr : r < length es) (hj : j ≤ r) (row : (b : ℕ) → j ≤ b → b < r → coversAt es i b ≡ false) (here : coversAt es i r ≡ true) where
+  module _ (r : ℕ) (hi : i < length es) (hr : r < length es) (hj : j ≤ r)
+      (row : (b : ℕ) → j ≤ b → b < r → coversAt es i b ≡ false) (here : coversAt es i r ≡ true) where
     -- r is not i
     apart : r ≡ i → ⊥
     unfolding pair coversAt coversOther
-    apart e = eqb-false i r (not-true (eqb i r) (and-first (not (eqb i r)) (covers (entryAt es i .pattern) (entryAt es r .pattern)) here)) (sym e)
+    apart e = eqb-false i r (not-true (eqb i r) (and-first (not (eqb i r)) _ here)) (sym e)
 
     -- so they are two entries
     two : Apart es (pair i r)
@@ -194,34 +200,37 @@ module _ (first es : List Entry) (i j : ℕ) (z : Searched first es i j) where
 
     -- what stands before (k, r) after the removal stood before (i, r)
     clear-taken : (k : ℕ) → (r < i → k + 1 ≡ i) → (i ≤ r → k ≡ i) → Clear (taken es i r) k r
-    clear-taken k less more = record { clear = λ a b ha hb h. covers-taken es i r a b ∙ stood (up r a) (up r b) (there a ha (up-is r a)) (there b hb (up-is r b)) (place a b (up-is r a) (up-is r b) (lt-or-le r i) h) }
+    clear-taken k less more = record {
+      clear = λ a b ha hb h.
+          let was = place a b (up-is r a) (up-is r b) (lt-or-le r i) h in
+          covers-taken es i r a b ∙ stood (up r a) (up r b) (there a ha (up-is r a)) (there b hb (up-is r b)) was;
+    }
       where
         stood : (a b : ℕ) → a < length es → b < length es → (a < i) ⊎ ((a ≡ i) × (b < r)) → coversAt es a b ≡ false
         stood a b ha hb (inl h) = z .before .clear a b ha hb (inl h)
         stood a b ha hb (inr h) = rw (h .0) (before-found b (h .1))
 
-        there : (a : ℕ) → a < length (taken es i r) → ((a < r) × (up r a ≡ a)) ⊎ ((r ≤ a) × (up r a ≡ suc a)) → up r a < length es
+        there : (a : ℕ) → a < length (taken es i r) → UpIs r a → up r a < length es
         there a ha (inl x) = omega (arith, shorter)
         there a ha (inr x) = omega (arith, shorter)
 
-        higher : (a : ℕ) → ((a < r) × (up r a ≡ a)) ⊎ ((r ≤ a) × (up r a ≡ suc a)) → (r < i) ⊎ (i ≤ r) → a < k → up r a < i
+        higher : (a : ℕ) → UpIs r a → (r < i) ⊎ (i ≤ r) → a < k → up r a < i
         higher a (inl x) (inl w) h = let e = less w in omega arith
         higher a (inr x) (inl w) h = let e = less w in omega arith
         higher a (inl x) (inr w) h = let e = more w in omega arith
         higher a (inr x) (inr w) h = let e = more w in omega arith
 
-        same : (a : ℕ) → ((a < r) × (up r a ≡ a)) ⊎ ((r ≤ a) × (up r a ≡ suc a)) → (r < i) ⊎ (i ≤ r) → a ≡ k → up r a ≡ i
+        same : (a : ℕ) → UpIs r a → (r < i) ⊎ (i ≤ r) → a ≡ k → up r a ≡ i
         same a (inl x) (inl w) h = let e = less w in absurd (omega arith)
         same a (inr x) (inl w) h = let e = less w in omega arith
         same a (inl x) (inr w) h = let e = more w in omega arith
         same a (inr x) (inr w) h = let e = more w in absurd (apart (omega arith))
 
-        left : (b : ℕ) → ((b < r) × (up r b ≡ b)) ⊎ ((r ≤ b) × (up r b ≡ suc b)) → b < r → up r b < r
+        left : (b : ℕ) → UpIs r b → b < r → up r b < r
         left b (inl y) h = omega arith
         left b (inr y) h = absurd (omega arith)
 
-        place : (a b : ℕ) → ((a < r) × (up r a ≡ a)) ⊎ ((r ≤ a) × (up r a ≡ suc a)) → ((b < r) × (up r b ≡ b)) ⊎ ((r ≤ b) × (up r b ≡ suc b))
-            → (r < i) ⊎ (i ≤ r) → (a < k) ⊎ ((a ≡ k) × (b < r)) → (up r a < i) ⊎ ((up r a ≡ i) × (up r b < r))
+        place : (a b : ℕ) → UpIs r a → UpIs r b → (r < i) ⊎ (i ≤ r) → (a < k) ⊎ ((a ≡ k) × (b < r)) → (up r a < i) ⊎ ((up r a ≡ i) × (up r b < r))
         place a b x y w (inl h) = inl (higher a x w h)
         place a b x y w (inr h) = inr (same a x w (h .0), left b y (h .1))
 

@@ -27,7 +27,7 @@ pub covers-other : (t : Table) (i k : ℕ) → SoundTable t → i < t .count →
 unfolding coversAt coversOther pair entryOf
 covers-other t i k s hi hk h = rw (ne-eqb i k (λ e. h (sym e)), entry-at t s i noEntry hi, entry-at t s k noEntry hk)
 
-module _ (first : List Sections.Entry) (t : Table) (i j r : ℕ) (s : SoundTable t) (z : Searched first (tableOf t) i j) (hi : i < t .count)
+module _ {first : List Sections.Entry} {t : Table} {i j r : ℕ} (s : SoundTable t) (z : Searched first (tableOf t) i j) (hi : i < t .count)
     (e : r ≡ scan (coversAt (tableOf t) i) (t .count - j) j) where
   -- the search was in the row
   from : j ≤ t .count
@@ -43,10 +43,11 @@ module _ (first : List Sections.Entry) (t : Table) (i j r : ℕ) (s : SoundTable
 
   -- no entry was found: the row is passed
   pub row-passed : t .count ≤ r → Searched first (tableOf t) (i + 1) 0
-  row-passed h = search-next first (tableOf t) i j z there (λ b hb hl. asked b hb (omega (arith, length-table t s)))
+  row-passed h = search-next z there (λ b hb hl. asked b hb (omega (arith, length-table t s)))
 
   -- an entry was found
-  module _ (hr : r < t .count) (u : Table) (v : SoundTable u) (q : tableOf u ≡ joinAt (patternOf (getD (t .entries) i noEntry .pattern)) (pair i r) (tableOf t)) where
+  module _ (hr : r < t .count) {u : Table} (v : SoundTable u)
+      (q : tableOf u ≡ joinAt (patternOf (getD (t .entries) i noEntry .pattern)) (pair i r) (tableOf t)) where
     -- it is covered
     holds : coversAt (tableOf t) i r ≡ true
     holds = rw e (scan-holds (coversAt (tableOf t) i) (t .count - j) j (omega (arith, from)))
@@ -67,12 +68,12 @@ module _ (first : List Sections.Entry) (t : Table) (i j r : ℕ) (s : SoundTable
     -- it has one entry less
     pub one-less : suc (u .count) ≡ t .count
     one-less =
-        omega (arith, length-table t s, length-table u v, ap length is-taken, shorter first (tableOf t) i j z r there hl hj asked holds)
+        omega (arith, length-table t s, length-table u v, ap length is-taken, shorter z r there hl hj asked holds)
 
     -- the search goes on in the same row
     pub goes-on-same : i ≤ r → Searched first (tableOf u) i r
-    goes-on-same h = rw is-taken (search-same first (tableOf t) i j z r there hl hj asked holds h)
+    goes-on-same h = rw is-taken (search-same z r there hl hj asked holds h)
 
     -- or one row higher, where an earlier entry was removed
     pub goes-on-higher : r < i → Searched first (tableOf u) (i - 1) r
-    goes-on-higher h = rw is-taken (search-higher first (tableOf t) i j z r there hl hj asked holds h)
+    goes-on-higher h = rw is-taken (search-higher z r there hl hj asked holds h)

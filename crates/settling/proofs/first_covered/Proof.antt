@@ -2,7 +2,7 @@
 use mathlib.Core.Logic.{⊎-elim}
 use Prim.Native.Nat.{_-_, _≤_}
 use mathlib.Core.Path.{_≡_, refl, sym, _∙_}
-use mathlib.Core.Bool.{true, false}
+use mathlib.Core.Bool.{false}
 use native.Mathlib.Omega.{arith}
 use borrow.Author.Needs.{needs}
 use Rattle.base.specs.Loops.{scan}
@@ -20,20 +20,8 @@ Inv-loop i j t p k₀ k = (k ≤ t .count) × (scan (coversAt (tableOf t) i) (t 
 abbrev μ-loop : tie.MeasureT-loop
 μ-loop i j t p k₀ k = t .count - k
 
-mul-e : tie.Need-mul-e Inv-loop μ-loop
-mul-e c = omega arith
-
-element-copy-out-e : tie.Need-element-copy-out-e Inv-loop μ-loop
-element-copy-out-e c = omega arith
-
 loop-holds : tie.Need-loop-holds Inv-loop μ-loop
 loop-holds c = (c .before .before .pre .2, refl)
-
-mul-f : tie.Need-mul-f Inv-loop μ-loop
-mul-f c = omega arith
-
-element-copy-out-f : tie.Need-element-copy-out-f Inv-loop μ-loop
-element-copy-out-f c = omega arith
 
 covers-requires : tie.Need-covers-requires Inv-loop μ-loop
 covers-requires c κs =
@@ -46,33 +34,22 @@ returns : tie.Need-returns Inv-loop μ-loop
 returns c =
     let a = c .before .before .before .before .before .before .before .before in
     let l = c .before .before .before .before .before .loop in
-    let here : coversAt (tableOf (a .args .t1)) (a .args .i) (l .k) ≡ true
-    = sym (covers-other (a .args .t1) (a .args .i) (l .k) (a .pre .0) (a .pre .1) (omega arith) (c .before .before .before .if1 .taken)) ∙ sym (c .before .covers .ensures) ∙ c .if2 .taken in
-    scan-stops (coversAt (tableOf (a .args .t1)) (a .args .i)) (a .args .t1 .count) (l .k) (scan (coversAt (tableOf (a .args .t1)) (a .args .i)) (a .args .t1 .count - a .args .j) (a .args .j)) (omega arith) here (l .inv .1)
-
-add-k : tie.Need-add-k Inv-loop μ-loop
-add-k c = omega arith
-
-loop-less : tie.Need-loop-less Inv-loop μ-loop
-loop-less c = omega arith
+    let other = covers-other (a .args .t1) (a .args .i) (l .k) (a .pre .0) (a .pre .1) (omega arith) (c .before .before .before .if1 .taken) in
+    scan-stops _ _ _ _ (omega arith) (sym other ∙ sym (c .before .covers .ensures) ∙ c .if2 .taken) (l .inv .1)
 
 loop-again : tie.Need-loop-again Inv-loop μ-loop
 loop-again c =
     let a = c .before .before .before .before .before in
     let l = c .before .before .loop in
-    let here : coversAt (tableOf (a .args .t1)) (a .args .i) (l .k) ≡ false
-    =
+    let here : coversAt (tableOf (a .args .t1)) (a .args .i) (l .k) ≡ false =
     ⊎-elim
     (λ w. sym (covers-other (a .args .t1) (a .args .i) (l .k) (a .pre .0) (a .pre .1) (omega arith) (w .0 .taken)) ∙ sym (w .2 .ensures) ∙ w .3 .left)
     (λ w. covers-itself (a .args .t1) (a .args .i) (l .k) (w .left))
     (c .if1 .came) in
-    (omega arith, scan-goes-on (coversAt (tableOf (a .args .t1)) (a .args .i)) (a .args .t1 .count) (l .k) (scan (coversAt (tableOf (a .args .t1)) (a .args .i)) (a .args .t1 .count - a .args .j) (a .args .j)) (omega arith) here (l .inv .1))
+    (omega arith, scan-goes-on _ _ _ _ (omega arith) here (l .inv .1))
 
 returns-2 : tie.Need-returns-2 Inv-loop μ-loop
-returns-2 c =
-    let a = c .before .before .before .before in
-    let l = c .before .loop in
-    scan-ends (coversAt (tableOf (a .args .t1)) (a .args .i)) (a .args .t1 .count) (l .k) (scan (coversAt (tableOf (a .args .t1)) (a .args .i)) (a .args .t1 .count - a .args .j) (a .args .j)) (omega arith) (l .inv .1)
+returns-2 c = scan-ends _ _ _ _ (omega arith) (c .before .loop .inv .1)
 
 pub first-covered-spec : {M : Type 1} → statement M
 first-covered-spec =
@@ -80,14 +57,11 @@ first-covered-spec =
     (tie.spec
     Inv-loop
     μ-loop
-    mul-e
-    element-copy-out-e
+    (λ c. omega arith) (λ c. omega arith)
     loop-holds
-    mul-f
-    element-copy-out-f
+    (λ c. omega arith) (λ c. omega arith)
     covers-requires
     returns
-    add-k
-    loop-less
+    (λ c. omega arith) (λ c. omega arith)
     loop-again
     returns-2)

@@ -6,27 +6,6 @@ use borrow.Author.Needs.{needs}
 use Rattle.settling.proofs.entries.join_at.Statement.{statement}
 use Rattle.settling.proofs.entries.join_at.Tie as tie
 
-mul-a : tie.Need-mul-a
-mul-a c = search needs
-
-element-copy-out-a : tie.Need-element-copy-out-a
-element-copy-out-a c = search needs
-
-mul-b : tie.Need-mul-b
-mul-b c = search needs
-
-element-copy-out-b : tie.Need-element-copy-out-b
-element-copy-out-b c = search needs
-
-union-requires : tie.Need-union-requires
-union-requires c κs = search needs
-
-mul-t9 : tie.Need-mul-t9
-mul-t9 c = search needs
-
-element-set-from-u : tie.Need-element-set-from-u
-element-set-from-u c = search needs
-
 remove-requires : tie.Need-remove-requires
 remove-requires c κs =
     let a = c .before .before .before in
@@ -41,13 +20,5 @@ returns c =
 pub join-at-spec : {M : Type 1} → statement M
 join-at-spec =
     tie.close
-    (tie.spec
-    mul-a
-    element-copy-out-a
-    mul-b
-    element-copy-out-b
-    union-requires
-    mul-t9
-    element-set-from-u
-    remove-requires
-    returns)
+    (tie.spec (λ c. search needs) (λ c. search needs) (λ c. search needs) (λ c. search needs) (λ c κs. search needs)
+    (λ c. search needs) (λ c. search needs) remove-requires returns)

@@ -13,32 +13,8 @@ Inv-loop j last u₀ k₀ u k = Moved (u₀ .entries) j k (u .entries) × (u .co
 abbrev μ-loop : tie.MeasureT-loop
 μ-loop j last u₀ k₀ u k = last - k
 
-sub-last : tie.Need-sub-last Inv-loop μ-loop
-sub-last c = omega arith
-
 loop-holds : tie.Need-loop-holds Inv-loop μ-loop
 loop-holds c = (moved-starts (c .before .args .t .entries) (c .before .args .j), refl, omega arith)
-
-add-e : tie.Need-add-e Inv-loop μ-loop
-add-e c = omega arith
-
-mul-e : tie.Need-mul-e Inv-loop μ-loop
-mul-e c = omega arith
-
-element-copy-out-e : tie.Need-element-copy-out-e Inv-loop μ-loop
-element-copy-out-e c = omega arith
-
-mul-e-2 : tie.Need-mul-e-2 Inv-loop μ-loop
-mul-e-2 c = omega arith
-
-element-set-from-e : tie.Need-element-set-from-e Inv-loop μ-loop
-element-set-from-e c = omega arith
-
-add-k : tie.Need-add-k Inv-loop μ-loop
-add-k c = omega arith
-
-loop-less : tie.Need-loop-less Inv-loop μ-loop
-loop-less c = omega arith
 
 loop-again : tie.Need-loop-again Inv-loop μ-loop
 loop-again c =
@@ -62,14 +38,9 @@ remove-spec =
     (tie.spec
     Inv-loop
     μ-loop
-    sub-last
+    (λ c. omega arith)
     loop-holds
-    add-e
-    mul-e
-    element-copy-out-e
-    mul-e-2
-    element-set-from-e
-    add-k
-    loop-less
+    (λ c. omega arith) (λ c. omega arith) (λ c. omega arith) (λ c. omega arith) (λ c. omega arith) (λ c. omega arith)
+    (λ c. omega arith)
     loop-again
     returns)
