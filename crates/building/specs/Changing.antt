@@ -14,7 +14,8 @@ use Rattle.building.specs.declared.rounds.Best.{Best}
 use Rattle.building.specs.Finding.{bestIs, found-some, found-none}
 
 -- where no pair was found the definition cuts
-pub change-cut : (t : Table) (b : Best) → bestIs b ≡ bestPair (tableOf t) → b .saved ≡ 0 → cutLargest (tableOf t) ≡ mergeOrCut (bestPair (tableOf t)) (tableOf t)
+pub change-cut : (t : Table) (b : Best) → bestIs b ≡ bestPair (tableOf t) → b .saved ≡ 0
+    → cutLargest (tableOf t) ≡ mergeOrCut (bestPair (tableOf t)) (tableOf t)
 unfolding mergeOrCut
 change-cut t b e z = rw (← e, found-none b z) refl
 
@@ -35,7 +36,8 @@ module _ (t : Table) (b : Best) (s : SoundTable t) (e : bestIs b ≡ bestPair (t
       (omega (arith, length-table t s, right .0 .entries .first), omega (arith, length-table t s, right .0 .entries .second))
 
   -- and the definition merges it
-  pub change-merge : (m : Forest) → m ≡ merge (patternOf (getD (t .entries) (b .i) noEntry .pattern)) (patternOf (getD (t .entries) (b .j) noEntry .pattern)) .pattern
+  pub change-merge : (m : Forest)
+      → m ≡ merge (patternOf (getD (t .entries) (b .i) noEntry .pattern)) (patternOf (getD (t .entries) (b .j) noEntry .pattern)) .pattern
       → joinAt m (pair (b .i) (b .j)) (tableOf t) ≡ mergeOrCut (bestPair (tableOf t)) (tableOf t)
   unfolding mergeOrCut entryOf pair
   change-merge m q = rw (found, entry-at t s (b .i) noEntry (found-there .0), entry-at t s (b .j) noEntry (found-there .1), q) refl

@@ -1,6 +1,6 @@
 -- The build from the first entries on, and its rounds, counted one by one.
 use Prim.Native.Nat.{ℕ, zero, suc, _+_, _-_, _≤_, _<_}
-use mathlib.Core.Path.{_≡_, refl, sym, _∙_, ap}
+use mathlib.Core.Path.{_≡_, refl, ap}
 use mathlib.Core.List.{List}
 use native.Mathlib.Omega.{arith}
 use borrow.Author.Tests.{le-leb, lt-leb}
@@ -30,37 +30,33 @@ pub record InRounds (limit : ℕ) (settled : List Entry) (rounds : ℕ) (es : Li
   pub entries : roundsFrom limit (stepsTogether settled - rounds) es .entries ≡ buildSettled limit settled .entries
   pub count : rounds + roundsFrom limit (stepsTogether settled - rounds) es .rounds ≡ buildSettled limit settled .rounds
 
-module _ (limit : ℕ) (settled : List Entry) where
-  -- before the first round
-  pub rounds-start : InRounds limit settled 0 settled
-  unfolding buildSettled
-  rounds-start = record { few = omega arith; entries = ap (λ (n : ℕ). roundsFrom limit n settled .entries) all; count = rw all (omega arith) }
-    where
-      all : stepsTogether settled - 0 ≡ stepsTogether settled
-      all = omega arith
+-- before the first round
+pub rounds-start : (limit : ℕ) (settled : List Entry) → InRounds limit settled 0 settled
+unfolding buildSettled
+rounds-start limit settled =
+    let all : stepsTogether settled - 0 ≡ stepsTogether settled = omega arith in
+    record { few = omega arith; entries = ap (λ (n : ℕ). roundsFrom limit n settled .entries) all; count = rw all (omega arith) }
 
-  module _ (rounds : ℕ) (es : List Entry) (z : InRounds limit settled rounds es) where
-    -- above the limit there is one round more
-    pub rounds-go-on : limit < stepsTogether es → InRounds limit settled (rounds + 1) (round es)
-    unfolding roundsFrom pick
-    rounds-go-on h = record { few = omega (arith, z .few, round-saves es (omega arith)); entries = rw (left, lt-leb (stepsTogether es) limit h) at (z .entries); count = count (rw (left, lt-leb (stepsTogether es) limit h) at (z .count)) }
-      where
-        left : stepsTogether settled - rounds ≡ suc (stepsTogether settled - (rounds + 1))
-        left = split (stepsTogether settled) rounds (omega (arith, z .few))
+module _ {limit : ℕ} {settled : List Entry} {rounds : ℕ} {es : List Entry} (z : InRounds limit settled rounds es) where
+  -- above the limit there is one round more
+  pub rounds-go-on : limit < stepsTogether es → InRounds limit settled (rounds + 1) (round es)
+  unfolding roundsFrom pick
+  rounds-go-on h =
+      let left : stepsTogether settled - rounds ≡ suc (stepsTogether settled - (rounds + 1)) = split (stepsTogether settled) rounds (omega (arith, z .few)) in
+      let over = lt-leb (stepsTogether es) limit h in
+      let counted : rounds + suc (roundsFrom limit (stepsTogether settled - (rounds + 1)) (round es) .rounds) ≡ buildSettled limit settled .rounds =
+      rw (left, over) at (z .count) in
+      record { few = omega (arith, z .few, round-saves es (omega arith)); entries = rw (left, over) at (z .entries); count = omega arith }
 
-        count : rounds + suc (roundsFrom limit (stepsTogether settled - (rounds + 1)) (round es) .rounds) ≡ buildSettled limit settled .rounds
-            → rounds + 1 + roundsFrom limit (stepsTogether settled - (rounds + 1)) (round es) .rounds ≡ buildSettled limit settled .rounds
-        count e = omega arith
+  -- within it there is none
+  stops : (n : ℕ) → stepsTogether es ≤ limit → roundsFrom limit n es ≡ record { entries = es; rounds = 0 }
+  unfolding roundsFrom pick
+  stops zero h = refl
+  stops (suc n) h = rw (le-leb (stepsTogether es) limit h)
 
-    -- within it there is none
-    stops : (n : ℕ) → stepsTogether es ≤ limit → roundsFrom limit n es ≡ record { entries = es; rounds = 0 }
-    unfolding roundsFrom pick
-    stops zero h = refl
-    stops (suc n) h = rw (le-leb (stepsTogether es) limit h)
-
-    -- so the entries and the rounds are those of the build
-    pub rounds-end : stepsTogether es ≤ limit → (es ≡ buildSettled limit settled .entries) × (rounds ≡ buildSettled limit settled .rounds)
-    rounds-end h =
-        let e = stops (stepsTogether settled - rounds) h in
-        let more : rounds + 0 ≡ buildSettled limit settled .rounds = ap (λ (t : Table). rounds + t .rounds) (sym e) ∙ z .count in
-        (ap (λ (t : Table). t .entries) (sym e) ∙ z .entries, omega arith)
+  -- so the entries and the rounds are those of the build
+  pub rounds-end : stepsTogether es ≤ limit → (es ≡ buildSettled limit settled .entries) × (rounds ≡ buildSettled limit settled .rounds)
+  rounds-end h =
+      let e = stops (stepsTogether settled - rounds) h in
+      let counted : rounds + 0 ≡ buildSettled limit settled .rounds = rw e at (z .count) in
+      (rw e at (z .entries), omega arith)

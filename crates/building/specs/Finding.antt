@@ -1,6 +1,6 @@
 -- The pair that saves most, found pair by pair.
 use Prim.Native.Nat.{ℕ, zero, suc, _+_, _-_, _≤_, _<_}
-use mathlib.Core.Path.{_≡_, refl, sym, _∙_, ap}
+use mathlib.Core.Path.{_≡_, refl, sym, _∙_}
 use mathlib.Core.List.{List, map}
 use native.Mathlib.Omega.{arith}
 use borrow.Author.Tests.{lt-ltb, le-ltb, eq-eqb, ne-eqb}
@@ -69,19 +69,17 @@ saves-at : (t : Table) (i j : ℕ) → SoundTable t → i < t .count → j < t .
 unfolding saves savedBy entrySteps pair entryOf
 saves-at t i j s hi hj = rw (entry-at t s i noEntry hi, entry-at t s j noEntry hj)
 
-module _ (t : Table) (i : ℕ) (found : Best) where
-  -- before the first pair of the row
-  pub row-starts : i < t .count → InRow t i found (i + 1) found
-  row-starts h = record { there = h; reached = omega arith; rest = refl }
+-- before the first pair of the row
+pub row-starts : (t : Table) (i : ℕ) (found : Best) → i < t .count → InRow t i found (i + 1) found
+row-starts t i found h = record { there = h; reached = omega arith; rest = refl }
 
-  module _ (j : ℕ) (b : Best) (n : ℕ) (s : SoundTable t) (h : j < t .count) (z : InRow t i found j b)
+module _ {t : Table} {i : ℕ} {found : Best} {j : ℕ} {b : Best} (z : InRow t i found j b) where
+  module _ {n : ℕ} (s : SoundTable t) (h : j < t .count)
       (e : n ≡ savedBy (patternOf (getD (t .entries) i noEntry .pattern)) (patternOf (getD (t .entries) j noEntry .pattern))) where
     -- with one pair asked
     here : bestOf (tableOf t) (rowFrom t i (j + 1)) (better n (pair i j) (bestIs b)) ≡ bestOf (tableOf t) (rowFrom t i (i + 1)) (bestIs found)
     unfolding bestOf
-    here =
-        rw (e, ← saves-at t i j s (z .there) h)
-        (ap (λ (js : List ℕ). bestOf (tableOf t) (map (pair i) js) (bestIs b)) (sym (numbers-split j (t .count) h)) ∙ z .rest)
+    here = rw (e, ← saves-at t i j s (z .there) h) (rw (numbers-split j (t .count) h) at (z .rest))
 
     -- it saves more and is taken
     pub row-better : b .saved < n → InRow t i found (j + 1) (record { saved = n; i = i; j = j })
@@ -92,6 +90,6 @@ module _ (t : Table) (i : ℕ) (found : Best) where
     row-no-better l = record { there = z .there; reached = omega arith; rest = rw (saves-no-more b n i j l) at here }
 
   -- after the last pair the row is asked
-  pub row-ends : (j : ℕ) (b : Best) → t .count ≤ j → InRow t i found j b → bestIs b ≡ bestOf (tableOf t) (rowFrom t i (i + 1)) (bestIs found)
+  pub row-ends : t .count ≤ j → bestIs b ≡ bestOf (tableOf t) (rowFrom t i (i + 1)) (bestIs found)
   unfolding bestOf
-  row-ends j b h z = sym (ap (λ (js : List ℕ). bestOf (tableOf t) (map (pair i) js) (bestIs b)) (numbers-end j (t .count) h)) ∙ z .rest
+  row-ends h = rw (numbers-end j (t .count) h) at (z .rest)

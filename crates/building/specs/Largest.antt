@@ -1,10 +1,8 @@
 -- The entry with most steps, found entry by entry; and it loses its last step.
 use Prim.Native.Nat.{ℕ, _+_, _-_, _≤_, _<_}
-use mathlib.Core.Path.{_≡_, refl, sym, _∙_, ap}
-use mathlib.Core.List.{List}
+use mathlib.Core.Path.{_≡_, refl, _∙_, ap}
 use native.Mathlib.Omega.{arith}
 use borrow.Author.Tests.{lt-ltb, le-ltb}
-use mathlib.Core.Bool.{true, false}
 use lib.Dec.{ltb}
 use lib.ListN.{getD}
 use Rattle.base.specs.Choice.{pick}
@@ -28,33 +26,36 @@ pub record Largest (t : Table) (i j : ℕ) : Type 0 where
 pub largest-starts : (t : Table) → 0 < t .count → Largest t 0 0
 largest-starts t h = record { there = h; reached = omega arith; rest = ap (λ (n : ℕ). largest (tableOf t) (numbersFrom 0 n) 0) (omega arith) }
 
-module _ (t : Table) (i j : ℕ) (s : SoundTable t) (h : j < t .count) (z : Largest t i j) where
-  -- with one entry asked
-  here : largest (tableOf t) (numbersFrom (j + 1) (t .count - (j + 1))) (pick (ltb (entrySteps (entryAt (tableOf t) i)) (entrySteps (entryAt (tableOf t) j))) j i)
-      ≡ largest (tableOf t) (numbersFrom 0 (t .count)) 0
+module _ {t : Table} {i j : ℕ} (z : Largest t i j) where
+  module _ (s : SoundTable t) (h : j < t .count) where
+    -- the steps of an entry, as the definition counts them
+    stepsAt : ℕ → ℕ
+    stepsAt k = entrySteps (entryAt (tableOf t) k)
+
+    -- with one entry asked
+    here : largest (tableOf t) (numbersFrom (j + 1) (t .count - (j + 1))) (pick (ltb (stepsAt i) (stepsAt j)) j i)
+        ≡ largest (tableOf t) (numbersFrom 0 (t .count)) 0
+    unfolding largest stepsAt
+    here = rw (numbers-split j (t .count) h) at (z .rest)
+
+    -- it has more steps and is the largest so far
+    pub larger : getD (t .entries) i noEntry .pattern .count < getD (t .entries) j noEntry .pattern .count → Largest t j (j + 1)
+    unfolding pick stepsAt
+    larger l =
+        let test = lt-ltb (stepsAt i) (stepsAt j) (omega (arith, steps-at t s i noEntry (z .there), steps-at t s j noEntry h)) in
+        record { there = h; reached = omega arith; rest = rw test at here }
+
+    -- it has no more, and on ties the first stays
+    pub not-larger : getD (t .entries) j noEntry .pattern .count ≤ getD (t .entries) i noEntry .pattern .count → Largest t i (j + 1)
+    unfolding pick stepsAt
+    not-larger l =
+        let test = le-ltb (stepsAt i) (stepsAt j) (omega (arith, steps-at t s i noEntry (z .there), steps-at t s j noEntry h)) in
+        record { there = z .there; reached = omega arith; rest = rw test at here }
+
+  -- after the last entry
+  pub largest-ends : t .count ≤ j → i ≡ largest (tableOf t) (numbersFrom 0 (t .count)) 0
   unfolding largest
-  here = ap (λ (js : List ℕ). largest (tableOf t) js i) (sym (numbers-split j (t .count) h)) ∙ z .rest
-
-  -- it has more steps and is the largest so far
-  pub larger : getD (t .entries) i noEntry .pattern .count < getD (t .entries) j noEntry .pattern .count → Largest t j (j + 1)
-  unfolding pick
-  larger l = record { there = h; reached = omega arith; rest = rw test at here }
-    where
-      test : ltb (entrySteps (entryAt (tableOf t) i)) (entrySteps (entryAt (tableOf t) j)) ≡ true
-      test = lt-ltb (entrySteps (entryAt (tableOf t) i)) (entrySteps (entryAt (tableOf t) j)) (omega (arith, steps-at t s i noEntry (z .there), steps-at t s j noEntry h))
-
-  -- it has no more, and on ties the first stays
-  pub not-larger : getD (t .entries) j noEntry .pattern .count ≤ getD (t .entries) i noEntry .pattern .count → Largest t i (j + 1)
-  unfolding pick
-  not-larger l = record { there = z .there; reached = omega arith; rest = rw test at here }
-    where
-      test : ltb (entrySteps (entryAt (tableOf t) i)) (entrySteps (entryAt (tableOf t) j)) ≡ false
-      test = le-ltb (entrySteps (entryAt (tableOf t) i)) (entrySteps (entryAt (tableOf t) j)) (omega (arith, steps-at t s i noEntry (z .there), steps-at t s j noEntry h))
-
--- after the last entry
-pub largest-ends : (t : Table) (i j : ℕ) → t .count ≤ j → Largest t i j → i ≡ largest (tableOf t) (numbersFrom 0 (t .count)) 0
-unfolding largest
-largest-ends t i j h z = sym (ap (λ (js : List ℕ). largest (tableOf t) js i) (numbers-end j (t .count) h)) ∙ z .rest
+  largest-ends h = rw (numbers-end j (t .count) h) at (z .rest)
 
 -- an entry with another pattern
 abbrev pub changed : Entry → Pattern → Entry
@@ -67,7 +68,8 @@ cut-empty t e = rw e refl
 
 module _ (t : Table) (i : ℕ) (p : Pattern) (s : SoundTable t) (h : i < t .count) (e : i ≡ largest (tableOf t) (numbersFrom 0 (t .count)) 0) where
   -- the entry with most steps without its last step is what the definition cuts
-  pub cut-there : patternOf p ≡ cut (patternOf (getD (t .entries) i noEntry .pattern)) → tableOf (put t s i (changed (getD (t .entries) i noEntry) p) h) ≡ cutLargest (tableOf t)
+  pub cut-there : patternOf p ≡ cut (patternOf (getD (t .entries) i noEntry .pattern))
+      → tableOf (put t s i (changed (getD (t .entries) i noEntry) p) h) ≡ cutLargest (tableOf t)
   unfolding cutLargest entryOf
   cut-there q =
       put-table t s i (changed (getD (t .entries) i noEntry) p) h

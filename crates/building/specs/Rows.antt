@@ -1,6 +1,6 @@
 -- The pairs i < j row by row, and the best of all.
 use Prim.Native.Nat.{ℕ, zero, suc, _+_, _-_, _≤_, _<_}
-use mathlib.Core.Path.{_≡_, refl, sym, _∙_, ap}
+use mathlib.Core.Path.{_≡_, refl, _∙_, ap}
 use mathlib.Core.Bool.{Bool, true, false}
 use mathlib.Core.List.{List, [], _∷_, _++_, map}
 use native.Mathlib.Omega.{arith}
@@ -32,8 +32,11 @@ row-ascends i k zero h l =
     rw none refl
 row-ascends i k (suc n) h l = go (ltb i k) refl (row-ascends i (suc k) n)
   where
-    go : (b : Bool) → ltb i k ≡ b → (suc k ≤ i + 1 → i < suc k + n → keep ascends (map (pair i) (numbersFrom (suc k) n)) ≡ map (pair i) (numbersFrom (i + 1) (suc k + n - (i + 1))))
-        → pick b (pair i k ∷ keep ascends (map (pair i) (numbersFrom (suc k) n))) (keep ascends (map (pair i) (numbersFrom (suc k) n))) ≡ map (pair i) (numbersFrom (i + 1) (k + suc n - (i + 1)))
+    others : List Pair
+    others = keep ascends (map (pair i) (numbersFrom (suc k) n))
+
+    go : (b : Bool) → ltb i k ≡ b → (suc k ≤ i + 1 → i < suc k + n → others ≡ map (pair i) (numbersFrom (i + 1) (suc k + n - (i + 1))))
+        → pick b (pair i k ∷ others) others ≡ map (pair i) (numbersFrom (i + 1) (k + suc n - (i + 1)))
     go true e later =
         let more = ltb-true i k e in
         let same : i + 1 ≡ k = omega arith in
@@ -61,7 +64,7 @@ rows-split t i h =
     let left : 0 + t .count - (i + 1) ≡ t .count - (i + 1) = omega arith in
     ap (λ (is : List ℕ). keep ascends (pairsOf is (numbersFrom 0 (t .count)))) (numbers-split i (t .count) h)
     ∙ keep-append ascends (map (pair i) (numbersFrom 0 (t .count))) (pairsOf (numbersFrom (i + 1) (t .count - (i + 1))) (numbersFrom 0 (t .count)))
-    ∙ ap (λ (ps : List Pair). ps ++ rowsFrom t (i + 1)) (row-ascends i 0 (t .count) (omega arith) (omega arith) ∙ ap (λ (m : ℕ). map (pair i) (numbersFrom (i + 1) m)) left)
+    ∙ rw (row-ascends i 0 (t .count) (omega arith) (omega arith), left)
 
 -- the best so far is b, and the rows from i on are still to be asked
 pub record InRows (t : Table) (i : ℕ) (b : Best) : Type 0 where
@@ -75,17 +78,15 @@ rows-start t s =
     let all : t .count - 0 ≡ t .count = omega arith in
     record { reached = omega arith; rest = rw (length-table t s, all) refl }
 
--- with one row asked
-pub rows-go-on : (t : Table) (i : ℕ) (b c : Best) → i < t .count → bestIs c ≡ bestOf (tableOf t) (rowFrom t i (i + 1)) (bestIs b) → InRows t i b → InRows t (i + 1) c
-rows-go-on t i b c h e z =
-    record {
-      reached = omega arith;
-      rest = ap (bestOf (tableOf t) (rowsFrom t (i + 1))) e ∙ sym (bestOf-append (tableOf t) (rowFrom t i (i + 1)) (rowsFrom t (i + 1)) (bestIs b))
-          ∙ ap (λ (ps : List Pair). bestOf (tableOf t) ps (bestIs b)) (sym (rows-split t i h)) ∙ z .rest;
-    }
+module _ {t : Table} {i : ℕ} {b : Best} (z : InRows t i b) where
+  -- with one row asked
+  pub rows-go-on : i < t .count → {c : Best} → bestIs c ≡ bestOf (tableOf t) (rowFrom t i (i + 1)) (bestIs b) → InRows t (i + 1) c
+  rows-go-on h e = record {
+    reached = omega arith;
+    rest = rw e (rw (rows-split t i h, bestOf-append) at (z .rest));
+  }
 
--- after the last row
-pub rows-end : (t : Table) (i : ℕ) (b : Best) → t .count ≤ i → InRows t i b → bestIs b ≡ bestPair (tableOf t)
-unfolding bestOf pairsOf keep
-rows-end t i b h z =
-    sym (ap (λ (is : List ℕ). bestOf (tableOf t) (keep ascends (pairsOf is (numbersFrom 0 (t .count)))) (bestIs b)) (numbers-end i (t .count) h)) ∙ z .rest
+  -- after the last row
+  pub rows-end : t .count ≤ i → bestIs b ≡ bestPair (tableOf t)
+  unfolding bestOf pairsOf keep
+  rows-end h = rw (numbers-end i (t .count) h) at (z .rest)

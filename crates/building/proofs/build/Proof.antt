@@ -12,42 +12,33 @@ use Rattle.building.proofs.build.Tie as tie
 
 abbrev Inv-loop : tie.InvT-loop
 Inv-loop limit most m₀ left₀ m left =
-    InRounds most (tableOf (m₀ .table)) (m .rounds) (tableOf (m .table)) × SoundTable (m .table) × (left ≡ stepsTogether (tableOf (m .table))) × (stepsTogether (tableOf (m₀ .table)) ≤ 1024)
+    InRounds most (tableOf (m₀ .table)) (m .rounds) (tableOf (m .table)) × SoundTable (m .table)
+    × (left ≡ stepsTogether (tableOf (m .table))) × (stepsTogether (tableOf (m₀ .table)) ≤ 1024)
 
 abbrev μ-loop : tie.MeasureT-loop
 μ-loop limit most m₀ left₀ m left = left
 
-settle-requires : tie.Need-settle-requires Inv-loop μ-loop
-settle-requires c κs = search needs
-
-steps-together-requires : tie.Need-steps-together-requires Inv-loop μ-loop
-steps-together-requires c κs = search needs
-
 loop-holds : tie.Need-loop-holds Inv-loop μ-loop
 loop-holds c =
     let r = c .before .settle in
-    (rounds-start (c .before .before .args .limit) (tableOf (r .result)), r .ensures .1, c .steps-together .ensures .0, omega arith)
+    (rounds-start _ _, r .ensures .1, c .steps-together .ensures .0, omega arith)
 
 one-more-requires : tie.Need-one-more-requires Inv-loop μ-loop
 one-more-requires c κs =
     let l = c .before .loop in
     (l .inv .1, omega (arith, l .inv .0 .few))
 
-steps-together-requires-2 : tie.Need-steps-together-requires-2 Inv-loop μ-loop
-steps-together-requires-2 c κs = search needs
-
 loop-less : tie.Need-loop-less Inv-loop μ-loop
 loop-less c =
     let l = c .before .before .before .loop in
-    omega (arith, c .steps-together2 .ensures .0, ap stepsTogether (c .before .one-more .ensures .0), round-saves (tableOf (l .m .table)) (omega arith))
+    let saved = round-saves (tableOf (l .m .table)) (omega arith) in
+    omega (arith, c .steps-together2 .ensures .0, ap stepsTogether (c .before .one-more .ensures .0))
 
 loop-again : tie.Need-loop-again Inv-loop μ-loop
 loop-again c =
-    let a = c .before .before .before .before .before .before in
-    let s = c .before .before .before .before .before .settle in
     let l = c .before .before .before .loop in
-    let r = c .before .one-more in
-    (rw (r .ensures .1, r .ensures .0) (rounds-go-on (a .args .limit) (tableOf (s .result)) (l .m .rounds) (tableOf (l .m .table)) (l .inv .0) (omega arith)), r .ensures .2, c .steps-together2 .ensures .0, l .inv .3)
+    let r = c .before .one-more .ensures in
+    (rw (r .1, r .0) (rounds-go-on (l .inv .0) (omega arith)), r .2, c .steps-together2 .ensures .0, l .inv .3)
 
 returns : tie.Need-returns Inv-loop μ-loop
 unfolding buildFrom
@@ -55,7 +46,7 @@ returns c =
     let a = c .before .before .before .before in
     let s = c .before .before .before .settle in
     let l = c .before .loop in
-    let e = rounds-end (a .args .limit) (tableOf (s .result)) (l .m .rounds) (tableOf (l .m .table)) (l .inv .0) (omega arith) in (
+    let e = rounds-end (l .inv .0) (omega arith) in (
       e .0 ∙ ap (λ es. buildSettled (a .args .limit) es .entries) (s .ensures .0),
       e .1 ∙ ap (λ es. buildSettled (a .args .limit) es .rounds) (s .ensures .0),
       omega (arith, l .inv .0 .few, ap stepsTogether (s .ensures .0)),
@@ -68,11 +59,11 @@ build-spec =
     (tie.spec
     Inv-loop
     μ-loop
-    settle-requires
-    steps-together-requires
+    (λ c κs. search needs)
+    (λ c κs. search needs)
     loop-holds
     one-more-requires
-    steps-together-requires-2
+    (λ c κs. search needs)
     loop-less
     loop-again
     returns)

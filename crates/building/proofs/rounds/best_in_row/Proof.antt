@@ -13,53 +13,27 @@ Inv-loop i t p best₀ j₀ best j = InRow t i best₀ j best
 abbrev μ-loop : tie.MeasureT-loop
 μ-loop i t p best₀ j₀ best j = t .count - j
 
-mul-e : tie.Need-mul-e Inv-loop μ-loop
-mul-e c = omega arith
-
-element-copy-out-e : tie.Need-element-copy-out-e Inv-loop μ-loop
-element-copy-out-e c = omega arith
-
-add-j : tie.Need-add-j Inv-loop μ-loop
-add-j c = omega arith
-
 loop-holds : tie.Need-loop-holds Inv-loop μ-loop
-loop-holds c =
-    let a = c .before .before in
-    row-starts (a .args .t1) (a .args .i) (a .args .found) (a .pre .1)
-
-mul-f : tie.Need-mul-f Inv-loop μ-loop
-mul-f c = omega arith
-
-element-copy-out-f : tie.Need-element-copy-out-f Inv-loop μ-loop
-element-copy-out-f c = omega arith
+loop-holds c = row-starts _ _ _ (c .before .before .pre .1)
 
 saves-requires : tie.Need-saves-requires Inv-loop μ-loop
 saves-requires c κs =
-    let a = c .before .before .before .before .before in
-    (entry-sound (a .args .t1) (a .pre .0) (a .args .i) noEntry (a .pre .1), entry-sound (a .args .t1) (a .pre .0) (c .before .before .loop .j) noEntry (omega arith))
-
-add-j-2 : tie.Need-add-j-2 Inv-loop μ-loop
-add-j-2 c = omega arith
-
-loop-less : tie.Need-loop-less Inv-loop μ-loop
-loop-less c = omega arith
+    let s = c .before .before .before .before .before .pre in
+    (entry-sound _ (s .0) _ noEntry (s .1), entry-sound _ (s .0) (c .before .before .loop .j) noEntry (omega arith))
 
 loop-again : tie.Need-loop-again Inv-loop μ-loop
 loop-again c =
     let a = c .before .before .before .before .before .before .before .before in
     let l = c .before .before .before .before .before .loop in
-    let n = c .before .before .saves in
+    let n = c .before .before .saves .ensures in
     let h : l .j < a .args .t1 .count = omega arith in
     ⊎-elim
-    (λ w. rw (w .1) (row-better (a .args .t1) (a .args .i) (a .args .found) (l .j) (l .best) (n .result) (a .pre .0) h (l .inv) (n .ensures) (w .0 .taken)))
-    (λ w. rw (w .1) (row-no-better (a .args .t1) (a .args .i) (a .args .found) (l .j) (l .best) (n .result) (a .pre .0) h (l .inv) (n .ensures) (w .0 .left)))
+    (λ w. rw (w .1) (row-better (l .inv) (a .pre .0) h n (w .0 .taken)))
+    (λ w. rw (w .1) (row-no-better (l .inv) (a .pre .0) h n (w .0 .left)))
     (c .if1 .came)
 
 returns : tie.Need-returns Inv-loop μ-loop
-returns c =
-    let a = c .before .before .before .before in
-    let l = c .before .loop in
-    row-ends (a .args .t1) (a .args .i) (a .args .found) (l .j) (l .best) (omega arith) (l .inv)
+returns c = row-ends (c .before .loop .inv) (omega arith)
 
 pub best-in-row-spec : {M : Type 1} → statement M
 best-in-row-spec =
@@ -67,14 +41,10 @@ best-in-row-spec =
     (tie.spec
     Inv-loop
     μ-loop
-    mul-e
-    element-copy-out-e
-    add-j
+    (λ c. omega arith) (λ c. omega arith) (λ c. omega arith)
     loop-holds
-    mul-f
-    element-copy-out-f
+    (λ c. omega arith) (λ c. omega arith)
     saves-requires
-    add-j-2
-    loop-less
+    (λ c. omega arith) (λ c. omega arith)
     loop-again
     returns)

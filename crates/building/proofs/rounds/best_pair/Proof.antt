@@ -24,14 +24,10 @@ loop-less : tie.Need-loop-less Inv-loop μ-loop
 loop-less c = omega arith
 
 loop-again : tie.Need-loop-again Inv-loop μ-loop
-loop-again c =
-    let l = c .before .before .before .loop in
-    rows-go-on (c .before .before .before .before .args .t) (l .i) (l .best) (c .best-in-row .result) (omega arith) (c .best-in-row .ensures) (l .inv)
+loop-again c = rows-go-on (c .before .before .before .loop .inv) (omega arith) (c .best-in-row .ensures)
 
 returns : tie.Need-returns Inv-loop μ-loop
-returns c =
-    let l = c .before .before .loop in
-    rows-end (c .before .before .before .args .t) (l .i) (l .best) (omega arith) (l .inv)
+returns c = rows-end (c .before .before .loop .inv) (omega arith)
 
 pub best-pair-spec : {M : Type 1} → statement M
 best-pair-spec =

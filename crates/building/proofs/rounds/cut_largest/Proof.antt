@@ -9,25 +9,10 @@ use Rattle.building.proofs.rounds.cut_largest.Tie as tie
 returns : tie.Need-returns
 returns c = (cut-empty (c .before .args .t1) (c .if1 .taken), c .before .pre)
 
-largest-requires : tie.Need-largest-requires
-largest-requires c κs = search needs
-
-mul-e : tie.Need-mul-e
-mul-e c = omega arith
-
-element-copy-out-e : tie.Need-element-copy-out-e
-element-copy-out-e c = omega arith
-
 cut-requires : tie.Need-cut-requires
 cut-requires c κs =
     let a = c .before .before .before in
     entry-sound (a .args .t1) (a .pre) (c .before .largest .result) noEntry (c .before .largest .ensures .1)
-
-mul-e-2 : tie.Need-mul-e-2
-mul-e-2 c = omega arith
-
-element-set-from-e : tie.Need-element-set-from-e
-element-set-from-e c = omega arith
 
 returns-2 : tie.Need-returns-2
 returns-2 c =
@@ -42,10 +27,7 @@ cut-largest-spec =
     tie.close
     (tie.spec
     returns
-    largest-requires
-    mul-e
-    element-copy-out-e
+    (λ c κs. search needs) (λ c. omega arith) (λ c. omega arith)
     cut-requires
-    mul-e-2
-    element-set-from-e
+    (λ c. omega arith) (λ c. omega arith)
     returns-2)
