@@ -1,3 +1,4 @@
+pub mod OverBlock
 pub mod Places
 pub mod Tests
 pub mod Questions

@@ -1,22 +1,20 @@
 -- One law for each way through the two loops: what is left of the steps from here on answers what all of them answer.
-use Prim.Native.Nat.{ℕ, suc, _+_, _-_, _≤_, _<_}
+use Prim.Native.Nat.{ℕ, _+_, _-_, _≤_, _<_}
 use mathlib.Core.Path.{_≡_, refl, sym, _∙_}
 use mathlib.Core.Bool.{Bool, true, false, _&&_, _||_, and-assoc}
 use mathlib.Core.List.{List}
 use native.Mathlib.Omega.{arith}
 use native.Mathlib.Numerals.{add-one}
-use lib.ListN.{drop}
-use borrow.Author.Tests.{lt-ltb, le-ltb}
-use Rattle.base.specs.Choice.{pick}
 use Rattle.meaning.specs.Forest.{axisOf}
 use Rattle.meaning.specs.Satisfying.{anyOrSame}
 use Rattle.meaning.specs.Covering.{stepAt, fitsAt, lays}
 use Rattle.meaning.specs.declared.Step.{Step}
 use Rattle.laws.specs.Children.{childrenFrom, childrenOf}
 use Rattle.shapes.specs.Shapes.{stepsIn, SoundPattern}
-use Rattle.shapes.specs.Steps.{stepIn, step-at, step-number, steps-from, steps-end, block-in, child-here, child-not, children-end}
+use Rattle.shapes.specs.Steps.{stepIn, step-at, step-number, child-here, child-not, children-end}
 use Rattle.shapes.specs.declared.Pattern.{Pattern}
-use Rattle.covering.specs.Places.{placeFrom, tried, place-found}
+use Rattle.covering.specs.OverBlock.{overFrom, over-starts, over-step, over-ends, over-done}
+use Rattle.covering.specs.Places.{tried, place-found}
 use Rattle.covering.specs.Questions.{childrenLie, fitsStep, someFits, mayLieBelow, liesAt}
 
 -- all children of step v among the steps from place k on find a place below step w
@@ -67,7 +65,7 @@ module _ {p : Pattern} {v : ℕ} {b : List Step} {w k : ℕ} (i : Laying p v b w
 
 -- some place from place u on, below step w, fits step s, which is number k of A
 unfoldable pub restFits : List Step → ℕ → Step → List Step → ℕ → ℕ → Bool
-restFits a k s b w u = placeFrom (axisOf (s .axis)) (fitsStep a k s) w (suc u) (drop u b)
+restFits a k s b w u = overFrom (tried (axisOf (s .axis)) (fitsStep a k s) w) false b w u
 
 -- the search below step w has come to place u: the places from there on answer what all answer
 pub record Fitting (a : List Step) (k : ℕ) (s : Step) (p : Pattern) (w u : ℕ) : Type 0 where
@@ -78,36 +76,36 @@ pub record Fitting (a : List Step) (k : ℕ) (s : Step) (p : Pattern) (w u : ℕ
 
 -- it starts right after w
 pub search-starts : (a : List Step) (k : ℕ) (s : Step) (p : Pattern) (w : ℕ) → SoundPattern p → w ≤ p .count → s ≡ stepAt a k → Fitting a k s p w w
-unfolding restFits someFits childrenOf childrenFrom
+unfolding restFits someFits
 search-starts a k s p w sound h e = record {
   sound = sound;
   from = omega arith;
   upto = h;
-  rest = rw e (place-found (fitsStep a k (stepAt a k)) w (axisOf (stepAt a k .axis)) (drop w (stepsIn p)) (block-in p sound w h));
+  rest = over-starts _ _ w p sound h ∙ rw e (place-found (fitsStep a k (stepAt a k)) w (axisOf (stepAt a k .axis)) (childrenOf (stepsIn p) w));
 }
 
 module _ {a : List Step} {k : ℕ} {s : Step} {p : Pattern} {w u : ℕ} (i : Fitting a k s p w u) where
   -- the block below w ends
   pub block-ends : u < p .count → stepIn p u .parent < w → false ≡ someFits a k (stepsIn p) w
-  unfolding restFits placeFrom pick
-  block-ends h l = rw (steps-from p (i .sound) u h, lt-ltb (stepIn p u .parent) w l) at (i .rest)
+  unfolding restFits
+  block-ends h l = sym (over-ends _ _ w p (i .sound) u h l) ∙ i .rest
 
   -- the steps end
   pub steps-done : p .count ≤ u → false ≡ someFits a k (stepsIn p) w
-  unfolding restFits placeFrom
-  steps-done h = rw (steps-end p (i .sound) u h) at (i .rest)
+  unfolding restFits
+  steps-done h = sym (over-done _ _ w p (i .sound) u h) ∙ i .rest
 
   module _ (h : u < p .count) (l : w ≤ stepIn p u .parent) where
     -- at a step of w's block
     rest-place : restFits a k s (stepsIn p) w u
-        ≡ ((mayLieBelow s w (stepIn p u) && childrenLie a k (stepsIn p) (suc u)) || restFits a k s (stepsIn p) w (suc u))
-    unfolding restFits placeFrom pick tried mayLieBelow childrenLie fitsStep fitsAt childrenOf childrenFrom
-    rest-place = rw (steps-from p (i .sound) u h, le-ltb (stepIn p u .parent) w l, and-assoc)
+        ≡ ((mayLieBelow s w (stepIn p u) && childrenLie a k (stepsIn p) (u + 1)) || restFits a k s (stepsIn p) w (u + 1))
+    unfolding restFits tried mayLieBelow childrenLie fitsStep fitsAt
+    rest-place = over-step _ _ w p (i .sound) u h l ∙ rw and-assoc
 
     module _ {m r : Bool} (may : m ≡ mayLieBelow s w (stepIn p u)) (is : r ≡ (m && childrenLie a k (stepsIn p) (u + 1))) where
       -- the place fits
       pub place-fits : r ≡ true → true ≡ someFits a k (stepsIn p) w
-      place-fits t = sym (rest-place ∙ rw (← may, ← add-one, ← is, t)) ∙ i .rest
+      place-fits t = sym (rest-place ∙ rw (← may, ← is, t)) ∙ i .rest
 
       -- it doesn't
       pub place-doesn't : r ≡ false → Fitting a k s p w (u + 1)
@@ -115,7 +113,7 @@ module _ {a : List Step} {k : ℕ} {s : Step} {p : Pattern} {w u : ℕ} (i : Fit
         sound = i .sound;
         from = omega (arith, i .from);
         upto = omega arith;
-        rest = rw add-one (sym (rest-place ∙ rw (← may, ← add-one, ← is, t)) ∙ i .rest);
+        rest = sym (rest-place ∙ rw (← may, ← is, t)) ∙ i .rest;
       }
 
 -- a step can be laid at another exactly if its label fits and its children lie

@@ -2,24 +2,22 @@
 use Prim.Native.Nat.{ℕ, zero, suc, _+_, _≤_, _<_}
 use mathlib.Core.Path.{_≡_, refl, sym, _∙_, ap}
 use mathlib.Core.Bool.{Bool, true, false, _&&_}
-use mathlib.Core.List.{List, [], _∷_, _++_}
+use mathlib.Core.List.{List}
 use native.Mathlib.Omega.{arith}
 use native.Mathlib.Numerals.{add-one}
-use lib.Dec.{eqb, ltb}
-use lib.ListN.{drop}
-use borrow.Author.Tests.{eq-eqb, ne-eqb, lt-ltb, le-ltb}
-use Rattle.base.specs.Choice.{pick}
-use Rattle.meaning.specs.Forest.{Axis, axisOf, isNear, Forest, none, step, size, childrenIn, stepsFrom}
+use lib.Dec.{eqb}
+use borrow.Author.Tests.{eq-eqb, ne-eqb}
+use Rattle.meaning.specs.Forest.{axisOf, isNear, Forest, none, step, size}
 use Rattle.meaning.specs.Covering.{stepAt}
 use Rattle.meaning.specs.Merging.{Building, nothing, meetAt, across, through}
 use Rattle.meaning.specs.declared.Step.{Step}
 use Rattle.shapes.specs.Shapes.{stepsIn, SoundPattern}
 use Rattle.shapes.specs.declared.Pattern.{Pattern}
-use Rattle.shapes.specs.Steps.{stepIn, step-at, steps-from, steps-end, block-in}
+use Rattle.shapes.specs.Steps.{stepIn, step-at}
 use Rattle.laws.specs.Bridge.{axis-written}
-use Rattle.laws.specs.Outside.{Outside, outside-later, afterwards, outside-afterwards, written, steps-split, read-back}
-use Rattle.laws.specs.Blocks.{Ends, Block}
-use Rattle.laws.specs.Children.{childrenFrom, childrenOf}
+use Rattle.laws.specs.Outside.{written}
+use Rattle.laws.specs.Children.{childrenOf}
+use Rattle.covering.specs.OverBlock.{overForest, overFrom, over-starts, over-step, over-ends, over-done}
 
 -- what a step with its child steps makes of what is being built; the first says that it is a near child
 abbrev pub Meeting : Type 0
@@ -45,54 +43,19 @@ pub near-not : (s : Step) (w : ℕ) → (s .parent ≡ w → ⊥) → false ≡ 
 unfolding nearChild
 near-not s w e = rw (ne-eqb (s .parent) w e)
 
--- the steps from number k on, up to the first whose parent is above w
-unfoldable pub scanFrom : Meeting → ℕ → ℕ → List Step → Building → Building
-scanFrom pair w k [] b = b
-scanFrom pair w k (s ∷ ss) b =
-    pick (ltb (s .parent) w) b (scanFrom pair w (suc k) ss (pair (nearChild w s) (s .label) (childrenIn k (suc k) ss) b))
+-- a step of the walk below w: what is built goes through it, and then through those after it
+unfoldable pub meetStep : Meeting → ℕ → Step → Forest → (Building → Building) → Building → Building
+meetStep pair w s kids later b = later (pair (nearChild w s) (s .label) kids b)
 
-module _ (pair : Meeting) (w : ℕ) where
-  -- the walk ends with the block
-  ended : (k : ℕ) (after : List Step) (b : Building) → Ends w after → scanFrom pair w k after b ≡ b
-  unfolding scanFrom Ends pick
-  ended k [] b e = refl
-  ended k (s ∷ ss) b e = rw (lt-ltb (s .parent) w e)
-
-  -- at a written step
-  at-step : (k p : ℕ) (a : Axis) (m : ℕ) (kids later : Forest) (after : List Step) (b : Building) → w ≤ p → p < k
-      → Outside p (k + size (step a m kids later)) after
-      → scanFrom pair w k (stepsFrom p k (step a m kids later) ++ after) b
-      ≡ scanFrom pair w (suc k) (stepsFrom k (suc k) kids ++ afterwards p k kids later after) (pair (eqb p w && isNear a) m kids b)
-  unfolding scanFrom nearChild pick size written
-  at-step k p a m kids later after b l h o =
-      let o′ = outside-later p k a m kids later after o in
-      let rest : List Step = stepsFrom k (suc k) kids ++ afterwards p k kids later after in
-      let below : childrenIn k (suc k) rest ≡ kids =
-      read-back k (suc k) kids (afterwards p k kids later after) (omega arith) (outside-afterwards p k kids later after h o′) in
-      ap (λ (ss : List Step). scanFrom pair w k ss b) (steps-split p k a m kids later after) ∙ rw (le-ltb p w l, axis-written a, below)
-
-  -- a block is walked as its forest is
-  block : (p k : ℕ) (f : Forest) (after : List Step) (b : Building) → w ≤ p → p < k → Outside p (k + size f) after
-      → scanFrom pair w k (stepsFrom p k f ++ after) b ≡ scanFrom pair w (k + size f) after (across pair (eqb p w) f b)
-  unfolding across size stepsFrom afterwards
-  block p k none after b l h o = ap (λ (n : ℕ). scanFrom pair w n after b) (omega arith)
-  block p k (step a m kids later) after b l h o =
-      let o′ = outside-later p k a m kids later after o in
-      let c = pair (eqb p w && isNear a) m kids b in
-      let inside = block k (suc k) kids (afterwards p k kids later after) c (omega arith) (omega arith) (outside-afterwards p k kids later after h o′) in
-      let deep : eqb k w ≡ false = ne-eqb k w (λ e. omega arith) in
-      let d = across pair false kids c in
-      let beside = block p (suc k + size kids) later after d l (omega arith) o′ in
-      let n1 : suc k + size kids + size later ≡ k + suc (size kids + size later) = omega arith in
-      at-step k p a m kids later after b l h o ∙ inside ∙ rw deep (beside ∙ ap (λ (n : ℕ). scanFrom pair w n after (across pair (eqb p w) later d)) n1)
-
-  -- so the scan after w is the walk of its child steps
-  pub scan-walks : (rest : List Step) (b : Building) → Block w rest → scanFrom pair w (suc w) rest b ≡ across pair true (childrenIn w (suc w) rest) b
-  scan-walks rest b k =
-      let back = read-back w (suc w) (k .below) (k .after) (omega arith) (k .outside) in
-      let walked = block w (suc w) (k .below) (k .after) b (omega arith) (omega arith) (k .outside) in
-      let own : eqb w w ≡ true = eq-eqb w w refl in
-      rw (k .split, back) (walked ∙ rw own (ended (suc w + size (k .below)) (k .after) (across pair true (k .below) b) (k .ends)))
+-- a block is walked as its forest is
+over-across : (pair : Meeting) (w p k : ℕ) (f : Forest) (later : Building → Building) (b : Building) → w ≤ p → p < k
+    → overForest (meetStep pair w) p k f later b ≡ later (across pair (eqb p w) f b)
+unfolding overForest meetStep nearChild across written
+over-across pair w p k none next b l h = refl
+over-across pair w p k (step a m kids later) next b l h =
+    let deep : eqb k w ≡ false = ne-eqb k w (λ e. omega arith) in
+    rw (axis-written a, over-across pair w k (suc k) kids _ _ (omega arith) (omega arith), deep)
+    (over-across pair w p (suc k + size kids) later next _ l (omega arith))
 
 -- what a step v' makes: it meets every step w' below w
 unfoldable pub meetAll : ℕ → Forest → Meeting
@@ -109,7 +72,7 @@ through-across own w (step x l vs later) child b =
 
 -- ---- one law for each way through a loop
 unfoldable pub restWalks : Meeting → List Step → ℕ → ℕ → Building → Building
-restWalks pair ss w u b = scanFrom pair w (suc u) (drop u ss) b
+restWalks pair ss w u b = overFrom (meetStep pair w) (λ x. x) ss w u b
 
 -- what the step at place u makes
 abbrev pub stepMakes : Meeting → Pattern → ℕ → ℕ → Building → Building
@@ -117,23 +80,27 @@ stepMakes pair p w u b = pair (nearChild w (stepIn p u)) (stepAt (stepsIn p) (u 
 
 module _ (p : Pattern) (sound : SoundPattern p) (pair : Meeting) (w : ℕ) where
   pub walk-starts : (b : Building) → w ≤ p .count → restWalks pair (stepsIn p) w w b ≡ across pair true (childrenOf (stepsIn p) w) b
-  unfolding restWalks childrenOf childrenFrom
-  walk-starts b h = scan-walks pair w (drop w (stepsIn p)) b (block-in p sound w h)
+  unfolding restWalks
+  walk-starts b h =
+      let own : eqb w w ≡ true = eq-eqb w w refl in
+      (λ i. over-starts (meetStep pair w) (λ x. x) w p sound h i b)
+      ∙ over-across pair w w (suc w) (childrenOf (stepsIn p) w) (λ x. x) b (omega arith) (omega arith) ∙ rw own
 
   module _ (u : ℕ) (b whole : Building) where
     -- a step of the block
     pub walk-step : u < p .count → w ≤ stepIn p u .parent → restWalks pair (stepsIn p) w u b ≡ whole
         → restWalks pair (stepsIn p) w (u + 1) (stepMakes pair p w u b) ≡ whole
-    unfolding restWalks scanFrom pick childrenOf childrenFrom
+    unfolding restWalks meetStep
     walk-step h l i =
-        rw (add-one u, step-at p sound u h) (sym (rw (steps-from p sound u h, le-ltb (stepIn p u .parent) w l)) ∙ i)
+        let here : stepAt (stepsIn p) (u + 1) ≡ stepIn p u = rw (add-one u) (step-at p sound u h) in
+        rw here (sym (λ j. over-step (meetStep pair w) (λ x. x) w p sound u h l j b) ∙ i)
 
     -- the block ends
     pub walk-ends : u < p .count → stepIn p u .parent < w → restWalks pair (stepsIn p) w u b ≡ whole → b ≡ whole
-    unfolding restWalks scanFrom pick
-    walk-ends h l i = sym (rw (steps-from p sound u h, lt-ltb (stepIn p u .parent) w l)) ∙ i
+    unfolding restWalks
+    walk-ends h l i = sym (λ j. over-ends (meetStep pair w) (λ x. x) w p sound u h l j b) ∙ i
 
     -- the steps end
     pub walk-done : p .count ≤ u → restWalks pair (stepsIn p) w u b ≡ whole → b ≡ whole
-    unfolding restWalks scanFrom
-    walk-done h i = sym (rw (steps-end p sound u h)) ∙ i
+    unfolding restWalks
+    walk-done h i = sym (λ j. over-done (meetStep pair w) (λ x. x) w p sound u h j b) ∙ i
