@@ -21,9 +21,10 @@ use Rattle.meaning.specs.declared.Asked.{Asked}
 use Rattle.meaning.specs.declared.Asked.the-variants as asked
 use Rattle.shapes.specs.Shapes.{patternOf}
 use Rattle.shapes.specs.declared.Pattern.{Pattern}
-use Rattle.reading.specs.Places.{sheetAt}
-use Rattle.reading.specs.Judging.{sheetPlace}
-use Rattle.reading.specs.Judged.{reached, sheet-judged}
+use Rattle.reading.specs.SheetPlaces.{sheetAt}
+use Rattle.reading.specs.SheetSection.{sheetPlace}
+use Rattle.reading.specs.SheetJudged.{sheet-judged}
+use Rattle.places.specs.Reached.{reached}
 
 -- both numbers are those of subscriptions
 unfoldable pub bothThere : Sheet → ℕ → ℕ → Bool

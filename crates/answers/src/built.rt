@@ -16,8 +16,8 @@ ghost use mathlib.Core.List.{[], _∷_, _++_};
 ghost use Rattle.meaning.specs.Calls.{withRoom, after, buildAnswer};
 ghost use Rattle.meaning.specs.Building.{entriesFrom};
 ghost use Rattle.shapes.specs.Shapes.{entryOf, tableOf, SoundPattern, SoundTable};
-ghost use Rattle.reading.specs.Places.{sheetAt};
-ghost use Rattle.reading.specs.Judged.{SheetStands};
+ghost use Rattle.reading.specs.SheetPlaces.{sheetAt};
+ghost use Rattle.reading.specs.SheetJudged.{SheetStands};
 ghost use Rattle.patterns.specs.Subscribed.{SubscriptionsStand};
 ghost use Rattle.answers.specs.Says.{buildSays};
 

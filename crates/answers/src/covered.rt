@@ -4,8 +4,8 @@ use covering::covers;
 use meaning::Asked;
 use patterns::subscriptions_in;
 ghost use mathlib.Core.Path.{_≡_};
-ghost use Rattle.reading.specs.Places.{sheetAt};
-ghost use Rattle.reading.specs.Judged.{SheetStands};
+ghost use Rattle.reading.specs.SheetPlaces.{sheetAt};
+ghost use Rattle.reading.specs.SheetJudged.{SheetStands};
 ghost use Rattle.answers.specs.Says.{coversSays};
 
 // Does subscription i of a sheet that was judged cover subscription j?

@@ -10,8 +10,8 @@ ghost use mathlib.Core.Path.{_≡_};
 ghost use Rattle.meaning.specs.Calls.{withRoom, after, mergeAnswer};
 ghost use Rattle.meaning.specs.Merging.{merge};
 ghost use Rattle.shapes.specs.Shapes.{patternOf, SoundPattern};
-ghost use Rattle.reading.specs.Places.{sheetAt};
-ghost use Rattle.reading.specs.Judged.{SheetStands};
+ghost use Rattle.reading.specs.SheetPlaces.{sheetAt};
+ghost use Rattle.reading.specs.SheetJudged.{SheetStands};
 ghost use Rattle.answers.specs.Says.{mergeSays, markedSays};
 
 // Writes what a merge gave.

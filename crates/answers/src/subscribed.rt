@@ -5,7 +5,7 @@ use shapes::Pattern;
 ghost use mathlib.Core.Path.{_≡_};
 ghost use Prim.Native.Nat.{_<_};
 ghost use Rattle.meaning.specs.Calls.{subscription};
-ghost use Rattle.reading.specs.Places.{sheetAt};
+ghost use Rattle.reading.specs.SheetPlaces.{sheetAt};
 ghost use Rattle.patterns.specs.Subscribed.{SubscriptionsStand};
 ghost use Rattle.shapes.specs.Shapes.{patternOf, SoundPattern};
 

@@ -33,14 +33,14 @@ run-leads f next leads (suc n) i x y h = go (f i x) refl h (run-leads f next lea
     go (At z) e q later = later z y q ∙ ap (λ (w : ℕ). placeAfter next w n) (leads i x z e)
     go (No m) e q later = let z : _≡_ {A = ℕ} 0 1 = cc in absurd (omega arith)
 
--- what each reading gives, the run gives
-pub run-keeps : (f : ℕ → ℕ → Cur) (Good : ℕ → Type 0) → ((i x y : ℕ) → f i x ≡ At y → Good y) → (n i x y : ℕ) → Good x → run f n i x ≡ At y → Good y
+-- what each reading keeps, the run keeps
+pub run-keeps : (f : ℕ → ℕ → Cur) (Good : ℕ → Type 0) → ((i x y : ℕ) → Good x → f i x ≡ At y → Good y) → (n i x y : ℕ) → Good x → run f n i x ≡ At y → Good y
 unfolding run andThen
 run-keeps f Good keeps zero i x y g h = let e : x ≡ y = cc in subst Good e g
 run-keeps f Good keeps (suc n) i x y g h = go (f i x) refl h (run-keeps f Good keeps n (i + 1))
   where
     go : (c : Cur) → f i x ≡ c → andThen c (λ z. run f n (i + 1) z) ≡ At y → ((z w : ℕ) → Good z → run f n (i + 1) z ≡ At w → Good w) → Good y
-    go (At z) e q later = later z y (keeps i x z e) q
+    go (At z) e q later = later z y (keeps i x z g e) q
     go (No m) e q later = let z : _≡_ {A = ℕ} 0 1 = cc in absurd (omega arith)
 
 -- each thing of a run was read where it stands

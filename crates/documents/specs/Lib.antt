@@ -1,3 +1,3 @@
-pub mod Judging
-pub mod DocumentRead
-pub mod LabelRead
+pub mod DocumentSection
+pub mod DocumentJudged
+pub mod LabelNumbers

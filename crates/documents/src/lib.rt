@@ -1,4 +1,4 @@
-// Reading documents beside a sheet: labels and nodes are judged by places in the lent bytes (specs/Judging.antt), and what
+// Reading documents beside a sheet: labels and nodes are judged by places in the lent bytes (specs/DocumentSection.antt), and what
 // that gives is what a document means.
 use base::Cur;
 use labels::after_labels;
@@ -14,7 +14,8 @@ ghost use Rattle.base.specs.Loops.{run};
 ghost use Rattle.meaning.specs.Sections.{nodeParent};
 ghost use Rattle.meaning.specs.Calls.{documentNumber, labelNumber, labelPart};
 ghost use Rattle.places.specs.Bytes.{pairAt};
-ghost use Rattle.documents.specs.Judging.{nodeLabel, nodePlace, nodesPlace, documentPlace, bothPlace, nodeCountAt};
+ghost use Rattle.documents.specs.DocumentSection.{nodeLabel, nodePlace, nodesPlace, documentPlace, nodeCountAt};
+ghost use Rattle.documents.specs.DocumentJudged.{bothPlace};
 
 // Node 1 has parent 0, every other a parent from 1 to its own number less 1.
 fn node_parent(k: usize, p: usize) -> bool
@@ -105,14 +106,14 @@ fn nodes(d: &[u8], known: usize, x: usize) -> Cur
     nodes_from(d, known, x + 2, n)
 }
 
-// Where a document ends, beside a sheet of k labels that was judged, or its first fault.
-pub fn document(s: &[u8], k: usize, d: &[u8]) -> Cur
-    requires { ⌜ k < 256 ⌝ }
-    ensures { λ r. ⌜ r ≡ documentPlace (now (s .entry)) k (now (d .entry)) ⌝ }
+// Where a document ends, beside a sheet that was judged, or its first fault.
+pub fn document(s: &[u8], d: &[u8]) -> Cur
+    ensures { λ r. ⌜ r ≡ documentPlace (now (s .entry)) (now (d .entry)) ⌝ }
 {
     if d.len() <= 0 {
         return Cur::No(1);
     }
+    let k = byte_at(s, 0);
     let n = byte_at(d, 0);
     if 255 < k + n {
         return Cur::No(5);
@@ -131,7 +132,7 @@ pub fn both(s: &[u8], d: &[u8]) -> Cur
     ensures { λ r. ⌜ r ≡ bothPlace (now (s .entry)) (now (d .entry)) ⌝ }
 {
     match sheet(s) {
-        Cur::At(x) => document(s, byte_at(s, 0), d),
+        Cur::At(x) => document(s, d),
         Cur::No(m) => Cur::No(m),
     }
 }

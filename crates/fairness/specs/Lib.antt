@@ -1,4 +1,4 @@
 pub mod Members
 pub mod Weighing
 pub mod Each
-pub mod Judged
+pub mod FairJudged

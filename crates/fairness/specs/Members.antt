@@ -12,13 +12,13 @@ use borrow.Author.Tests.{eqb-true, eqb-false}
 use Rattle.base.specs.Bools.{true-or-false}
 use Rattle.places.specs.NumberRead.{numberIn}
 use Rattle.tables.specs.declared.Entries.{Entries}
-use Rattle.tables.specs.Judging.{entryAt}
+use Rattle.tables.specs.TableSection.{entryTaken}
 
 module _ (t : List ℕ) (v : Entries) where
   -- those of the first n entries
   pub record FirstMembers (n : ℕ) (members : List ℕ) : Type 0 where
     pub full : length members ≡ 64
-    pub each : (j : ℕ) → j < n → getD members j 0 ≡ entryAt t (getD (v .places) j 0) .members
+    pub each : (j : ℕ) → j < n → getD members j 0 ≡ entryTaken t (getD (v .places) j 0) .members
 
   -- those of all
   abbrev pub MembersStand : List ℕ → Type 0
@@ -31,7 +31,7 @@ module _ (t : List ℕ) (v : Entries) where
   -- and of one more
   pub one-more : (n : ℕ) (members : List ℕ) (m : ℕ) → n < 64 → FirstMembers n members → m ≡ numberIn t (getD (v .places) n 0) 8
       → FirstMembers (n + 1) (set members n m)
-  unfolding entryAt
+  unfolding entryTaken
   one-more n members m h z e = record { full = length-set members n m ∙ z .full; each = each }
     where
       each : (j : ℕ) → j < n + 1 → getD (set members n m) j 0 ≡ numberIn t (getD (v .places) j 0) 8

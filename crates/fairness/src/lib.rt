@@ -18,14 +18,14 @@ ghost use Rattle.base.specs.Lists.{every};
 ghost use Rattle.meaning.specs.Fair.{entriesOf, oneThatCovers, eachInOne};
 ghost use Rattle.meaning.specs.Calls.{tableNumber};
 ghost use Rattle.shapes.specs.Shapes.{patternOf, entryOf, SoundPattern};
-ghost use Rattle.reading.specs.Places.{sheetAt};
+ghost use Rattle.reading.specs.SheetPlaces.{sheetAt};
 ghost use Rattle.patterns.specs.Subscribed.{SubscriptionsStand};
-ghost use Rattle.tables.specs.Judging.{entryAt};
-ghost use Rattle.tables.specs.Standing.{tableAt, EntriesStand};
+ghost use Rattle.tables.specs.TableSection.{entryTaken, tableAt};
+ghost use Rattle.tables.specs.TableJudged.{EntriesStand};
 ghost use Rattle.fairness.specs.Members.{MembersStand};
 ghost use Rattle.fairness.specs.Weighing.{weighed};
 ghost use Rattle.fairness.specs.Each.{isFit};
-ghost use Rattle.fairness.specs.Judged.{fairAt, fairPlace};
+ghost use Rattle.fairness.specs.FairJudged.{fairAt, fairPlace};
 
 // No entry is without members, and no member is outside the sheet, of n subscriptions.
 fn all_fit(t: &[u8], entries: Entries, n: usize) -> bool
@@ -59,8 +59,8 @@ fn members_in(t: &[u8], entries: Entries) -> [u64; 64]
 // Weighs the entry at x for subscription i, whose pattern is p: 0 while no entry has it, 1 after one that covers it, 2 after
 // any other.
 fn weigh(t: &[u8], x: usize, members: u64, i: usize, p: Pattern, found: u8) -> u8
-    requires { ⌜ (members ≡ entryAt (now t) x .members) × SoundPattern (entryAt (now t) x .pattern) × (i < 64) × SoundPattern p ⌝ }
-    ensures { λ r. ⌜ r ≡ weighed i (patternOf p) (entryOf (entryAt (now (t .entry)) x)) found ⌝ }
+    requires { ⌜ (members ≡ entryTaken (now t) x .members) × SoundPattern (entryTaken (now t) x .pattern) × (i < 64) × SoundPattern p ⌝ }
+    ensures { λ r. ⌜ r ≡ weighed i (patternOf p) (entryOf (entryTaken (now (t .entry)) x)) found ⌝ }
 {
     if !is_member(members, i) {
         return found;

@@ -1,4 +1,3 @@
-pub mod Places
-pub mod Judging
+pub mod LabelPlaces
+pub mod LabelSection
 pub mod Turns
-pub mod LabelsRead

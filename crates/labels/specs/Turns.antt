@@ -10,7 +10,7 @@ use native.Mathlib.Omega.{arith}
 use native.Mathlib.Numerals.{add-one}
 use borrow.Author.Tests.{eq-eqb, ne-eqb}
 use Rattle.meaning.specs.Sections.{sameLabel}
-use Rattle.labels.specs.Places.{textAt}
+use Rattle.labels.specs.LabelPlaces.{textAt}
 
 -- ---- two labels, byte by byte
 

@@ -6,8 +6,8 @@ ghost use Prim.Native.Nat.{_+_, _≤_, _<_};
 ghost use Rattle.base.specs.Lists.{some};
 ghost use Rattle.base.specs.Standing.{placeAfter};
 ghost use Rattle.meaning.specs.Sections.{sameLabel};
-ghost use Rattle.labels.specs.Places.{textAt, afterLabel, textsAt};
-ghost use Rattle.labels.specs.Judging.{labelPlace, labelsPlace};
+ghost use Rattle.labels.specs.LabelPlaces.{textAt, afterLabel, textsAt};
+ghost use Rattle.labels.specs.LabelSection.{labelPlace, labelsPlace};
 
 // The bytes of the label whose length byte stands at p.
 pub fn text_at(s: &[u8], p: usize) -> &[u8]

@@ -8,8 +8,8 @@ use Rattle.meaning.specs.Forest.{none}
 use Rattle.shapes.specs.Shapes.{patternOf, SoundPattern}
 use Rattle.shapes.specs.declared.Pattern.{Pattern}
 use Rattle.laws.specs.RoundTrip.{sheet-read}
-use Rattle.reading.specs.Places.{sheetAt}
-use Rattle.reading.specs.Judged.{SheetStands}
+use Rattle.reading.specs.SheetPlaces.{sheetAt}
+use Rattle.reading.specs.SheetJudged.{SheetStands}
 use Rattle.patterns.specs.declared.Subscriptions.{Subscriptions}
 use Rattle.patterns.specs.Taken.{patternAt, subscriptionsOf}
 use Rattle.patterns.specs.TakenRead.{subscriptions-counted, subscription-taken}

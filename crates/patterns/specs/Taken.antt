@@ -8,7 +8,7 @@ use Rattle.base.specs.Standing.{standing}
 use Rattle.shapes.specs.Shapes.{noSteps}
 use Rattle.shapes.specs.declared.Pattern.{Pattern}
 use Rattle.patterns.specs.declared.Subscriptions.{Subscriptions}
-use Rattle.reading.specs.Places.{stepsAt, afterPattern, patternCountAt}
+use Rattle.reading.specs.SheetPlaces.{stepsAt, afterPattern, patternCountAt}
 
 -- the pattern at x: its steps and, behind them, what follows in the bytes; none where the count or the bytes don't allow it
 unfoldable pub patternAt : List ℕ → ℕ → Pattern

@@ -7,7 +7,7 @@ use shapes::no_steps;
 ghost use mathlib.Core.Path.{_≡_};
 ghost use Prim.Native.Nat.{_+_, _*_, _^_, _≤_, _<_};
 ghost use lib.ListN.{length};
-ghost use Rattle.reading.specs.Places.{stepAt, stepsAt, afterPattern};
+ghost use Rattle.reading.specs.SheetPlaces.{stepAt, stepsAt, afterPattern};
 ghost use Rattle.patterns.specs.Taken.{patternAt, patternPlaces, subscriptionsOf};
 
 // How many subscriptions a sheet has, and the place of each; behind those, the places go on in the same way.

@@ -10,11 +10,10 @@ use native.Mathlib.Omega.{arith}
 use native.Mathlib.Numerals.{add-one}
 use borrow.Author.Tests.{ltb-true, ltb-false, leb-true, leb-false}
 use Rattle.base.specs.Choice.{pick}
-use Rattle.base.specs.Loops.{andThen, run}
-use Rattle.base.specs.Standing.{standing}
+use Rattle.base.specs.Loops.{andThen}
 use Rattle.base.specs.declared.Cur.{Cur}
 use Rattle.base.specs.declared.Cur.the-variants.{At, No}
-use Rattle.meaning.specs.Reader.{Reading, read, refused, Reader, go-on, _>>=_, unless, byte, bytes, end, give, repeat, numberOf}
+use Rattle.meaning.specs.Reader.{Reading, read, refused, Reader, go-on, _>>=_, _>>_, unless, byte, bytes, end, give, repeat, numberOf}
 use Rattle.places.specs.Bytes.{numberAt}
 
 -- ---- choices
@@ -37,12 +36,6 @@ module _ {ℓ} {A : Type ℓ} where
   unfolding pick
   pick-either true b x y = refl
   pick-either false b x y = refl
-
-  -- the first only has to be right where the test holds
-  pub pick-where : (b : Bool) (x x′ y : A) → (b ≡ true → x ≡ x′) → pick b x y ≡ pick b x′ y
-  unfolding pick
-  pick-where true x x′ y h = h refl
-  pick-where false x x′ y h = refl
 
 -- a place was reached: no test on the way refused
 pub passed : (b : Bool) (x : Cur) (n y : ℕ) → pick b x (No n) ≡ At y → (b ≡ true) × (x ≡ At y)
@@ -137,8 +130,8 @@ module _ {A B : Type 0} where
 
 module _ {B : Type 0} (s : List ℕ) where
   -- a byte, where there is one
-  pub then-byte : (at : ℕ) (next : ℕ → Reader B) → go-on (byte (drop at s)) next ≡ pick (ltb at (length s)) (next (getD s at 0) (drop (at + 1) s)) (refused 1)
-  unfolding byte go-on pick
+  pub then-byte : (at : ℕ) (next : ℕ → Reader B) → _>>=_ byte next (drop at s) ≡ pick (ltb at (length s)) (next (getD s at 0) (drop (at + 1) s)) (refused 1)
+  unfolding _>>=_ byte go-on pick
   then-byte at next = go (ltb at (length s)) refl
     where
       go : (b : Bool) → ltb at (length s) ≡ b → go-on (byte (drop at s)) next ≡ pick b (next (getD s at 0) (drop (at + 1) s)) (refused 1)
@@ -146,14 +139,14 @@ module _ {B : Type 0} (s : List ℕ) where
       go false e = rw (drop-of-length-le s (ltb-false at (length s) e))
 
   -- a test, and the fault where it fails
-  pub then-unless : (n : ℕ) (b : Bool) (l : List ℕ) (next : Reader B) → go-on (unless n b l) (λ a. next) ≡ pick b (next l) (refused n)
-  unfolding unless go-on pick
+  pub then-unless : (n : ℕ) (b : Bool) (l : List ℕ) (next : Reader B) → _>>_ (unless n b) next l ≡ pick b (next l) (refused n)
+  unfolding _>>_ unless go-on pick
   then-unless n true l next = refl
   then-unless n false l next = refl
 
   -- n bytes, where there are so many
-  pub then-bytes : (n at : ℕ) (next : List ℕ → Reader B) → go-on (bytes n (drop at s)) next ≡ pick (leb n (length s - at)) (next (take n (drop at s)) (drop (at + n) s)) (refused 1)
-  unfolding go-on pick
+  pub then-bytes : (n at : ℕ) (next : List ℕ → Reader B) → _>>=_ (bytes n) next (drop at s) ≡ pick (leb n (length s - at)) (next (take n (drop at s)) (drop (at + n) s)) (refused 1)
+  unfolding _>>=_ go-on pick
   then-bytes n at next = ap (λ (r : Reading (List ℕ)). go-on r next) (bytes-read n (drop at s)) ∙ rw (length-drop at s, drop-drop n at s) (go (leb n (length s - at)))
     where
       go : (b : Bool) → go-on (pick b (read (take n (drop at s)) (drop (at + n) s)) (refused 1)) next ≡ pick b (next (take n (drop at s)) (drop (at + n) s)) (refused 1)
@@ -161,25 +154,10 @@ module _ {B : Type 0} (s : List ℕ) where
       go false = refl
 
   -- no byte remains
-  pub then-end : (at : ℕ) (next : Reader B) → go-on (end (drop at s)) (λ a. next) ≡ pick (leb (length s) at) (next (drop at s)) (refused 2)
-  unfolding end go-on pick
+  pub then-end : (at : ℕ) (next : Reader B) → _>>_ end next (drop at s) ≡ pick (leb (length s) at) (next (drop at s)) (refused 2)
+  unfolding _>>_ end go-on pick
   then-end at next = go (leb (length s) at) refl
     where
       go : (b : Bool) → leb (length s) at ≡ b → go-on (end (drop at s)) (λ a. next) ≡ pick b (next (drop at s)) (refused 2)
       go true e = rw (drop-of-length-le s (leb-true (length s) at e))
       go false e = rw (drop-cons s at 0 (leb-false (length s) at e))
-
--- ---- things of one kind, one after the other
-module _ {A : Type 0} (s : List ℕ) (r : Reader A) (here : ℕ → A) (next : ℕ → ℕ) (f : ℕ → ℕ → Cur)
-    (reads : (i x : ℕ) → r (drop x s) ≡ answer s (here x) (f i x)) (leads : (i x y : ℕ) → f i x ≡ At y → y ≡ next x) where
-  -- n of them from a place on
-  pub repeat-read : (n i x : ℕ) → repeat n r (drop x s) ≡ answer s (standing here next x n) (run f n i x)
-  unfolding repeat standing run _>>=_ give answer
-  repeat-read zero i x = refl
-  repeat-read (suc n) i x = rw (reads i x) (then-answer s (here x) (standing here next x (suc n)) (f i x) _ (λ y. run f n (i + 1) y) (λ y e. turn y (leads i x y e) (repeat-read n (i + 1) y)))
-    where
-      turn : (y : ℕ) → y ≡ next x → repeat n r (drop y s) ≡ answer s (standing here next y n) (run f n (i + 1) y)
-          → go-on (repeat n r (drop y s)) (λ later. give (here x ∷ later)) ≡ answer s (standing here next x (suc n)) (run f n (i + 1) y)
-      turn y e later =
-          let rest : Cur = run f n (i + 1) y in
-          rw later (then-give s (standing here next y n) rest (λ l. here x ∷ l) ∙ ap (λ (q : ℕ). answer s (here x ∷ standing here next q n) rest) e)

@@ -12,7 +12,7 @@ use Rattle.base.specs.Bools.{both-ways, and-first, and-second, and-both}
 use Rattle.base.specs.Choice.{pick}
 use Rattle.meaning.specs.Reader.{Reading, read, refused, Reader, go-on, _>>=_, give, number}
 use Rattle.places.specs.Bytes.{pairAt}
-use Rattle.places.specs.Answer.{then-byte}
+use Rattle.places.specs.Answer.{then-byte, go-on-pick, two}
 
 -- the number of n bytes at a place, the low byte first
 unfoldable pub numberIn : List ℕ → ℕ → ℕ → ℕ
@@ -54,13 +54,19 @@ module _ (s : List ℕ) where
 
 module _ {B : Type 0} (s : List ℕ) where
   -- read on after a number
-  pub then-number : (n at : ℕ) (next : ℕ → Reader B) → go-on (number n (drop at s)) next ≡ pick (leb n (length s - at)) (next (numberIn s at n) (drop (at + n) s)) (refused 1)
-  unfolding go-on pick
+  pub then-number : (n at : ℕ) (next : ℕ → Reader B) → _>>=_ (number n) next (drop at s) ≡ pick (leb n (length s - at)) (next (numberIn s at n) (drop (at + n) s)) (refused 1)
+  unfolding _>>=_ go-on pick
   then-number n at next = ap (λ (r : Reading ℕ). go-on r next) (number-read s n at) ∙ go (leb n (length s - at))
     where
       go : (b : Bool) → go-on (pick b (read (numberIn s at n) (drop (at + n) s)) (refused 1)) next ≡ pick b (next (numberIn s at n) (drop (at + n) s)) (refused 1)
       go true = refl
       go false = refl
+
+-- of two bytes, each of which is looked for
+pub then-pair : {B : Type 0} (s : List ℕ) (x : ℕ) (next : ℕ → Reader B)
+    → _>>=_ (number 2) next (drop x s) ≡ pick (ltb x (length s)) (pick (ltb (x + 1) (length s)) (next (pairAt s x) (drop (x + 2) s)) (refused 1)) (refused 1)
+unfolding number pairAt _>>=_ give go-on
+then-pair s x next = simp (then-byte, go-on-pick, add-zero, two)
 
 -- two bytes and what is above them
 two-bytes : (s : List ℕ) (x n : ℕ) → numberIn s x (suc (suc n)) ≡ pairAt s x + 65536 * numberIn s (x + 2) n

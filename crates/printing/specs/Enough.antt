@@ -16,7 +16,7 @@ use Rattle.shapes.specs.Steps.{count-size}
 use Rattle.shapes.specs.Tables.{length-table}
 use Rattle.shapes.specs.declared.Entry.{Entry}
 use Rattle.shapes.specs.declared.Table.{Table}
-use Rattle.reading.specs.Places.{forestAt, afterPattern, forestsAt, patternCountAt, sheetAt}
+use Rattle.reading.specs.SheetPlaces.{forestAt, afterPattern, forestsAt, patternCountAt, sheetAt}
 use Rattle.texts.specs.Output.{written, put, put-whole}
 use Rattle.texts.specs.StepTexts.{labelsIn}
 use Rattle.printing.specs.Tables.{builtTable, textOf, text-of}

@@ -15,10 +15,11 @@ use Rattle.meaning.specs.Calls.{judged}
 use Rattle.meaning.specs.Printing.{tableText, refusedText, Asking, asking, printed}
 use Rattle.shapes.specs.Shapes.{tableOf}
 use Rattle.shapes.specs.declared.Table.{Table}
-use Rattle.reading.specs.Places.{sheetAt}
+use Rattle.reading.specs.SheetPlaces.{sheetAt}
 use Rattle.places.specs.Bytes.{pairAt}
-use Rattle.reading.specs.Judging.{sheetPlace}
-use Rattle.reading.specs.Judged.{reached, sheet-judged, SheetStands, sheet-stands}
+use Rattle.reading.specs.SheetSection.{sheetPlace}
+use Rattle.reading.specs.SheetJudged.{sheet-judged, SheetStands, sheet-stands}
+use Rattle.places.specs.Reached.{reached}
 use Rattle.building.specs.Counting.{buildFrom, build-from}
 use Rattle.texts.specs.Output.{Written, put}
 use Rattle.texts.specs.StepTexts.{labelsIn}

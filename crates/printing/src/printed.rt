@@ -10,8 +10,8 @@ use texts::put_refused;
 ghost use mathlib.Core.Path.{_≡_};
 ghost use Rattle.meaning.specs.Building.{build};
 ghost use Rattle.meaning.specs.Printing.{tableText, printed};
-ghost use Rattle.reading.specs.Places.{sheetAt};
-ghost use Rattle.reading.specs.Judged.{SheetStands};
+ghost use Rattle.reading.specs.SheetPlaces.{sheetAt};
+ghost use Rattle.reading.specs.SheetJudged.{SheetStands};
 ghost use Rattle.texts.specs.Output.{written, put};
 
 // The table that is built for a limit from a sheet that was judged, as text.

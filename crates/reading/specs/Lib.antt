@@ -1,6 +1,5 @@
-pub mod Places
-pub mod Judging
+pub mod SheetPlaces
+pub mod StepSection
 pub mod Turns
-pub mod StepsRead
-pub mod SheetRead
-pub mod Judged
+pub mod SheetSection
+pub mod SheetJudged

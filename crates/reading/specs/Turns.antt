@@ -8,7 +8,7 @@ use native.Mathlib.Omega.{arith}
 use borrow.Author.Tests.{eq-eqb, ne-eqb}
 use Rattle.base.specs.Choice.{pick}
 use Rattle.base.specs.Loops.{split, none-left}
-use Rattle.reading.specs.Judging.{climbs}
+use Rattle.reading.specs.StepSection.{climbs}
 
 module _ (s : List ℕ) (p q n i c : ℕ) (whole : Bool) where
   -- nothing has been climbed

@@ -10,7 +10,7 @@ use places::byte_at;
 use places::end;
 ghost use mathlib.Core.Path.{_≡_};
 ghost use Rattle.meaning.specs.Calls.{sheetNumber};
-ghost use Rattle.reading.specs.Judging.{sheetPlace};
+ghost use Rattle.reading.specs.SheetSection.{sheetPlace};
 
 // Where a sheet ends, or its first fault.
 pub fn sheet(s: &[u8]) -> Cur

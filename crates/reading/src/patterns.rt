@@ -4,7 +4,9 @@ use base::Cur;
 use places::byte_at;
 ghost use mathlib.Core.Path.{_≡_};
 ghost use Rattle.base.specs.Loops.{run};
-ghost use Rattle.reading.specs.Judging.{patternPlace, nextPattern, patternsPlace};
+ghost use Rattle.reading.specs.SheetSection.{patternSection};
+ghost use Rattle.reading.specs.SheetSection.{patternPlace, patternsPlace};
+ghost use Rattle.places.specs.InTurn.{eachPlace};
 
 // A pattern at x: a step count and the steps.
 pub fn pattern(s: &[u8], known: usize, x: usize) -> Cur
@@ -22,7 +24,7 @@ pub fn pattern(s: &[u8], known: usize, x: usize) -> Cur
 
 // The n patterns from the place p on.
 fn patterns_from(s: &[u8], known: usize, p: usize, n: usize) -> Cur
-    ensures { λ r. ⌜ r ≡ run (nextPattern (now (s .entry)) known) n 0 p ⌝ }
+    ensures { λ r. ⌜ r ≡ run (eachPlace (patternSection (now (s .entry)) known)) n 0 p ⌝ }
 {
     let mut i = 0;
     let mut x = p;

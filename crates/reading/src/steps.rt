@@ -7,8 +7,8 @@ ghost use lib.ListN.{length};
 ghost use Rattle.base.specs.Lists.{some};
 ghost use Rattle.base.specs.Loops.{run};
 ghost use Rattle.meaning.specs.Sections.{isNearRoot};
-ghost use Rattle.reading.specs.Places.{stepAt, stepsAt};
-ghost use Rattle.reading.specs.Judging.{climbs, isSecondNear, stepLabel, stepPlace};
+ghost use Rattle.reading.specs.SheetPlaces.{stepAt, stepsAt};
+ghost use Rattle.reading.specs.StepSection.{climbs, isSecondNear, stepLabel, stepPlace};
 
 // Step q, or the root, is met going up from step c at most n times, where the steps stand from the place p on.
 fn climbs_to(s: &[u8], p: usize, q: usize, n: usize, c: usize) -> bool

@@ -15,16 +15,16 @@ use Rattle.meaning.specs.declared.Tabled.{Tabled}
 use Rattle.meaning.specs.declared.Tabled.the-variants as tabled
 use Rattle.shapes.specs.Shapes.{nodesAt}
 use Rattle.places.specs.Bytes.{pairAt}
-use Rattle.reading.specs.Places.{sheetAt}
-use Rattle.documents.specs.Judging.{bothPlace, documentPlace, nodeCountAt, documentAt}
-use Rattle.tables.specs.Standing.{tableAt}
-use Rattle.fairness.specs.Judged.{fairPlace, fair-judged}
-use Rattle.reading.specs.Judged.{reached}
+use Rattle.reading.specs.SheetPlaces.{sheetAt}
+use Rattle.documents.specs.DocumentSection.{documentPlace, nodeCountAt, documentAt}
+use Rattle.fairness.specs.FairJudged.{fairPlace, fair-judged}
+use Rattle.places.specs.Reached.{reached}
 use Rattle.routing.specs.declared.Route.{Route}
-use Rattle.routing.specs.Judged.{both-judged, document-judged}
+use Rattle.documents.specs.DocumentJudged.{both-judged, document-judged, bothPlace}
 use Rattle.routing.specs.Plain.{numberedAnswer}
 use Rattle.routing.specs.Tabling.{routeBy, route-tried}
 use Rattle.routing.specs.TableSet.{route-set}
+use Rattle.tables.specs.TableSection.{tableAt}
 
 module _ (s d : List ℕ) where
   -- ---- the plain route
@@ -83,7 +83,7 @@ module _ (s t d : List ℕ) where
   tableSays sh es dc = tabled.Delivered (tableRoute (dc .nodes) es (sh .patterns)) (tried (dc .nodes) es (sh .patterns))
 
   -- by the places that were reached, the document last
-  table-by-place : tableAnswer s t d ≡ reached (fairPlace s t) tabled.Refused (reached (documentPlace s (getD s 0 0) d) tabled.Refused (tableSays (sheetAt s) (tableAt t) (documentAt d)))
+  table-by-place : tableAnswer s t d ≡ reached (fairPlace s t) tabled.Refused (reached (documentPlace s d) tabled.Refused (tableSays (sheetAt s) (tableAt t) (documentAt d)))
   unfolding tableAnswer
   table-by-place =
       fair-judged s t tabled.Refused (λ sh es. judged (document sh d) tabled.Refused (tableSays sh es))
@@ -94,18 +94,18 @@ module _ (s t d : List ℕ) where
   unfolding reached
   table-refused m h = sym (table-by-place ∙ rw h)
 
-  module _ (y k : ℕ) (h : fairPlace s t ≡ At y) (e : k ≡ getD s 0 0) where
+  module _ (y : ℕ) (h : fairPlace s t ≡ At y) where
     -- the document is refused
-    pub document-refused : (m : ℕ) → documentPlace s k d ≡ No m → tabled.Refused m ≡ tableAnswer s t d
+    pub document-refused : (m : ℕ) → documentPlace s d ≡ No m → tabled.Refused m ≡ tableAnswer s t d
     unfolding reached
-    document-refused m g = sym (table-by-place ∙ rw (h, ← e, g))
+    document-refused m g = sym (table-by-place ∙ rw (h, g))
 
     -- the route by the table is delivered
-    pub table-delivered : (z at n : ℕ) (r : Route) → documentPlace s k d ≡ At z → at ≡ nodeCountAt d + 2 → n ≡ pairAt d (nodeCountAt d)
+    pub table-delivered : (z at n : ℕ) (r : Route) → documentPlace s d ≡ At z → at ≡ nodeCountAt d + 2 → n ≡ pairAt d (nodeCountAt d)
         → r ≡ routeBy (nodesAt d at n) (sheetAt s .patterns) (tableAt t) → tabled.Delivered (r .set) (r .tried) ≡ tableAnswer s t d
     unfolding reached documentAt
     table-delivered z at n r g a b q =
         let ns = nodesAt d at n in
         let set : r .set ≡ tableRoute ns (tableAt t) (sheetAt s .patterns) = ap (λ (u : Route). u .set) q ∙ route-set ns (sheetAt s .patterns) (tableAt t) in
         let count : r .tried ≡ tried ns (tableAt t) (sheetAt s .patterns) = ap (λ (u : Route). u .tried) q ∙ route-tried ns (sheetAt s .patterns) (tableAt t) in
-        sym (table-by-place ∙ rw (h, ← e, g, ← a, ← b, ← set, ← count))
+        sym (table-by-place ∙ rw (h, g, ← a, ← b, ← set, ← count))

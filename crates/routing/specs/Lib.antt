@@ -1,4 +1,3 @@
-pub mod Judged
 pub mod Plain
 pub mod Tabling
 pub mod TableSet

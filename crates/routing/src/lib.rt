@@ -15,7 +15,6 @@ use members::mark;
 use patterns::Subscriptions;
 use patterns::pattern_at;
 use patterns::subscriptions_in;
-use places::byte_at;
 use shapes::Entry;
 use tables::Entries;
 use tables::entries_in;
@@ -26,14 +25,15 @@ ghost use Rattle.meaning.specs.Satisfying.{satisfies};
 ghost use Rattle.meaning.specs.Routing.{plainRoute};
 ghost use Rattle.meaning.specs.Calls.{matchesAnswer, plainAnswer, tableAnswer};
 ghost use Rattle.shapes.specs.Shapes.{nodesAt, entryOf, patternOf, SoundPattern};
-ghost use Rattle.reading.specs.Places.{sheetAt};
+ghost use Rattle.reading.specs.SheetPlaces.{sheetAt};
 ghost use Rattle.patterns.specs.Taken.{patternAt};
 ghost use Rattle.patterns.specs.Subscribed.{SubscriptionsStand};
-ghost use Rattle.tables.specs.Standing.{tableAt, EntriesStand};
-ghost use Rattle.reading.specs.Judged.{SheetStands};
-ghost use Rattle.routing.specs.Judged.{NodesStand};
+ghost use Rattle.tables.specs.TableJudged.{EntriesStand};
+ghost use Rattle.reading.specs.SheetJudged.{SheetStands};
+ghost use Rattle.documents.specs.DocumentJudged.{NodesStand};
 ghost use Rattle.routing.specs.Plain.{numberedAnswer};
 ghost use Rattle.routing.specs.Tabling.{memberTried, askMembers, askEntry, routeBy};
+ghost use Rattle.tables.specs.TableSection.{tableAt};
 
 // A route by a table so far: the delivery set, and how many patterns were tried.
 struct Route {
@@ -199,7 +199,7 @@ pub fn table_route(s: &[u8], t: &[u8], d: &[u8]) -> Tabled
     ensures { λ r. ⌜ r ≡ tableAnswer (now (s .entry)) (now (t .entry)) (now (d .entry)) ⌝ }
 {
     match fair_table(s, t) {
-        Cur::At(x) => match document(s, byte_at(s, 0), d) {
+        Cur::At(x) => match document(s, d) {
             Cur::At(y) => {
                 let route = ask_entries(
                     s,

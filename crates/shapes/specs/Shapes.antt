@@ -1,9 +1,10 @@
 -- What a pattern, an entry and a table by value stand for, and what is so of each that the hub makes; nodes as they stand in bytes.
-use Prim.Native.Nat.{ℕ, zero, suc, _+_, _*_, _≤_}
+use Prim.Native.Nat.{ℕ, _+_, _*_, _≤_}
 use mathlib.Core.Path.{_≡_, refl}
 use mathlib.Core.List.{List, [], _∷_, map, List·Memᴰ}
 use native.Mathlib.Omega.{arith}
 use lib.ListN.{length, getD, take, replicate}
+use Rattle.base.specs.Standing.{standing}
 use Rattle.meaning.specs.Numbers.{mostSteps, mostEntries}
 use Rattle.meaning.specs.Forest.{Forest, none, childrenIn, forest, stepsFrom, stepsOf}
 use Rattle.meaning.specs.Sections.{Node}
@@ -51,9 +52,15 @@ pub record SoundTable (t : Table) : Type 0 where
   pub full : length (t .entries) ≡ 64
   pub patterns : (e : Entry) → List·Memᴰ e (entriesIn t) → SoundPattern (e .pattern)
 
--- n nodes as they stand in bytes from a place on: two bytes of parent, the low one first, and a label
+-- ---- nodes as they stand in bytes
+
+-- two bytes of parent, the low one first, and a label
+unfoldable pub nodeAt : List ℕ → ℕ → Node
+nodeAt bs at = record { parent = getD bs at 0 + 256 * getD bs (at + 1) 0; label = getD bs (at + 2) 0 }
+
+unfoldable pub afterNode : ℕ → ℕ
+afterNode at = at + 3
+
+-- n nodes from a place on
 unfoldable pub nodesAt : List ℕ → ℕ → ℕ → List Node
-nodesAt bs at zero = []
-nodesAt bs at (suc n) =
-    record { parent = getD bs at 0 + 256 * getD bs (at + 1) 0; label = getD bs (at + 2) 0 }
-    ∷ nodesAt bs (at + 3) n
+nodesAt bs = standing (nodeAt bs) afterNode

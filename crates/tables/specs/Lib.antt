@@ -1,3 +1,2 @@
-pub mod Judging
-pub mod TableRead
-pub mod Standing
+pub mod TableSection
+pub mod TableJudged

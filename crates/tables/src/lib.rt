@@ -1,4 +1,4 @@
-// Reading the bytes of a table beside a sheet: entries are judged by places in the lent bytes (specs/Judging.antt), and
+// Reading the bytes of a table beside a sheet: entries are judged by places in the lent bytes (specs/TableSection.antt), and
 // what that gives is what a table means. Entries by value from their places.
 use base::Cur;
 use patterns::after_pattern;
@@ -15,7 +15,8 @@ ghost use lib.Dec.{leb};
 ghost use lib.ListN.{length};
 ghost use Rattle.base.specs.Loops.{run};
 ghost use Rattle.places.specs.NumberRead.{numberIn};
-ghost use Rattle.tables.specs.Judging.{entryPlace, tablePlace, bothPlace, tableBytesNumber, entryAt, entryPlaces, entriesOf};
+ghost use Rattle.tables.specs.TableSection.{entryPlace, entrySection, tablePlace, bothPlace, entryTaken, entryPlaces, tableEntries};
+ghost use Rattle.places.specs.InTurn.{eachPlace};
 
 // How many entries a table has, and the place of each; behind those, the places go on in the same way.
 pub struct Entries {
@@ -48,8 +49,8 @@ pub fn members_at(t: &[u8], x: usize) -> u64
 }
 
 // An entry at x, with so many labels.
-fn entry(t: &[u8], known: usize, i: usize, x: usize) -> Cur
-    ensures { λ r. ⌜ r ≡ entryPlace (now (t .entry)) known i x ⌝ }
+fn entry(t: &[u8], known: usize, x: usize) -> Cur
+    ensures { λ r. ⌜ r ≡ entryPlace (now (t .entry)) known x ⌝ }
 {
     if enough(t, x, 8) {
         return pattern(t, known, x + 8);
@@ -59,12 +60,12 @@ fn entry(t: &[u8], known: usize, i: usize, x: usize) -> Cur
 
 // The n entries from the place p on, with so many labels.
 fn entries_from(t: &[u8], known: usize, p: usize, n: usize) -> Cur
-    ensures { λ r. ⌜ r ≡ run (entryPlace (now (t .entry)) known) n 0 p ⌝ }
+    ensures { λ r. ⌜ r ≡ run (eachPlace (entrySection (now (t .entry)) known)) n 0 p ⌝ }
 {
     let mut i = 0;
     let mut x = p;
     while i < n {
-        match entry(t, known, i, x) {
+        match entry(t, known, x) {
             Cur::At(y) => {
                 x = y;
             }
@@ -77,9 +78,9 @@ fn entries_from(t: &[u8], known: usize, p: usize, n: usize) -> Cur
     Cur::At(x)
 }
 
-// Where a table ends, with so many labels, or its first fault.
-fn table(t: &[u8], known: usize) -> Cur
-    ensures { λ r. ⌜ r ≡ tablePlace (now (t .entry)) known ⌝ }
+// Where a table ends, beside a sheet that was judged, or its first fault.
+fn table(s: &[u8], t: &[u8]) -> Cur
+    ensures { λ r. ⌜ r ≡ tablePlace (now (s .entry)) (now (t .entry)) ⌝ }
 {
     if t.len() <= 0 {
         return Cur::No(1);
@@ -88,7 +89,7 @@ fn table(t: &[u8], known: usize) -> Cur
     if 64 < n {
         return Cur::No(5);
     }
-    match entries_from(t, known, 1, n) {
+    match entries_from(t, byte_at(s, 0), 1, n) {
         Cur::At(y) => end(t, y),
         Cur::No(m) => Cur::No(m),
     }
@@ -99,24 +100,14 @@ pub fn both(s: &[u8], t: &[u8]) -> Cur
     ensures { λ r. ⌜ r ≡ bothPlace (now (s .entry)) (now (t .entry)) ⌝ }
 {
     match sheet(s) {
-        Cur::At(x) => table(t, byte_at(s, 0)),
+        Cur::At(x) => table(s, t),
         Cur::No(m) => Cur::No(m),
-    }
-}
-
-// The number of a table's bytes beside a sheet: 0 where both are sound, whether the table is fair aside.
-pub fn table_bytes_number(s: &[u8], t: &[u8]) -> u8
-    ensures { λ r. ⌜ r ≡ tableBytesNumber (now (s .entry)) (now (t .entry)) ⌝ }
-{
-    match both(s, t) {
-        Cur::At(x) => 0,
-        Cur::No(m) => m,
     }
 }
 
 // The entry at x by value.
 pub fn entry_at(t: &[u8], x: usize) -> Entry
-    ensures { λ r. ⌜ r ≡ entryAt (now (t .entry)) x ⌝ }
+    ensures { λ r. ⌜ r ≡ entryTaken (now (t .entry)) x ⌝ }
 {
     let members = members_at(t, x);
     if t.len() <= x {
@@ -148,7 +139,7 @@ fn entry_places(t: &[u8]) -> [usize; 64]
 
 // The entries of a table.
 pub fn entries_in(t: &[u8]) -> Entries
-    ensures { λ r. ⌜ r ≡ entriesOf (now (t .entry)) ⌝ }
+    ensures { λ r. ⌜ r ≡ tableEntries (now (t .entry)) ⌝ }
 {
     let places = entry_places(t);
     let n = byte_at(t, 0);

@@ -8,7 +8,7 @@ use Rattle.base.specs.Standing.{placeAfter, length-standing, getD-standing}
 use Rattle.meaning.specs.Forest.{axisOf}
 use Rattle.meaning.specs.LabelBytes.{labelAt}
 use Rattle.meaning.specs.Printing.{ascii, axisText, labelText}
-use Rattle.labels.specs.Places.{textAt, afterLabel, textsAt}
+use Rattle.labels.specs.LabelPlaces.{textAt, afterLabel, textsAt}
 
 -- ---- an axis
 

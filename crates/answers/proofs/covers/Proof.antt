@@ -1,6 +1,6 @@
 -- `covers` meets its contract: the sheet is judged first.
 use mathlib.Core.Path.{sym, _∙_}
-use Rattle.reading.specs.Judged.{sheet-stands}
+use Rattle.reading.specs.SheetJudged.{sheet-stands}
 use Rattle.answers.specs.Says.{covers-said, covers-refused}
 use borrow.Author.Needs.{needs}
 use Rattle.answers.proofs.covers.Statement.{statement}

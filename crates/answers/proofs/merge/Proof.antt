@@ -1,6 +1,6 @@
 -- `merge` meets its contract: the sheet is judged first, and a refusal leaves the output as found.
 use mathlib.Core.Path.{sym, _∙_}
-use Rattle.reading.specs.Judged.{sheet-stands}
+use Rattle.reading.specs.SheetJudged.{sheet-stands}
 use Rattle.answers.specs.Says.{merge-said, merge-refused}
 use Rattle.answers.specs.Outcome.{merge-refuses, merge-same}
 use borrow.Author.Needs.{needs}

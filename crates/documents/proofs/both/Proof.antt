@@ -1,18 +1,15 @@
 -- `documents::both` meets its contract.
 use Rattle.base.specs.Loops.{andThen}
-use Rattle.documents.specs.Judging.{bothPlace}
 use borrow.Author.Needs.{needs}
 use Rattle.documents.proofs.both.Statement.{statement}
 use Rattle.documents.proofs.both.Tie as tie
+use Rattle.documents.specs.DocumentJudged.{bothPlace}
 
 sheet-requires : tie.Need-sheet-requires
 sheet-requires c κs = search needs
 
 enum-known-x : tie.Need-enum-known-x
 enum-known-x c = search needs
-
-byte-at-requires : tie.Need-byte-at-requires
-byte-at-requires c κs = search needs
 
 document-requires : tie.Need-document-requires
 document-requires c κs = search needs
@@ -22,13 +19,7 @@ enum-known-m c = search needs
 
 returns : tie.Need-returns
 unfolding bothPlace andThen
-returns c =
-    rw (
-      ← (c .before .before .before .before .before .sheet .ensures),
-      c .before .before .before .x .given .1,
-      ← (c .before .byte-at .ensures .0),
-    )
-    (c .document .ensures)
+returns c = rw (← (c .before .before .before .before .sheet .ensures), c .before .before .x .given .1) (c .document .ensures)
 
 returns-2 : tie.Need-returns-2
 unfolding bothPlace andThen
@@ -40,7 +31,6 @@ both-spec =
     (tie.spec
     sheet-requires
     enum-known-x
-    byte-at-requires
     document-requires
     enum-known-m
     returns

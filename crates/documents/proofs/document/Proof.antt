@@ -1,24 +1,27 @@
 -- `documents::document` meets its contract.
 use Rattle.base.specs.Loops.{andThen}
-use Rattle.documents.specs.Judging.{documentPlace}
 use Rattle.base.specs.Choice.{picks}
 use borrow.Author.Needs.{needs}
 use Rattle.documents.proofs.document.Statement.{statement}
 use Rattle.documents.proofs.document.Tie as tie
+use Rattle.documents.specs.DocumentSection.{documentSection, closingSection}
 
 returns : tie.Need-returns
-unfolding documentPlace
+unfolding documentSection
 returns c = search picks depth 15
 
 byte-at-requires : tie.Need-byte-at-requires
 byte-at-requires c κs = search needs
 
+byte-at-requires-2 : tie.Need-byte-at-requires-2
+byte-at-requires-2 c κs = search needs
+
 add-if2 : tie.Need-add-if2
 add-if2 c = search needs
 
 returns-2 : tie.Need-returns-2
-unfolding documentPlace
-returns-2 c = rw (← (c .before .byte-at .ensures .0)) (search picks depth 15)
+unfolding documentSection
+returns-2 c = rw (← (c .before .before .byte-at .ensures .0), ← (c .before .byte-at2 .ensures .0)) (search picks depth 15)
 
 labels-requires : tie.Need-labels-requires
 labels-requires c κs = search needs
@@ -45,10 +48,11 @@ enum-known-m-2 : tie.Need-enum-known-m-2
 enum-known-m-2 c = search needs
 
 returns-3 : tie.Need-returns-3
-unfolding documentPlace andThen
+unfolding documentSection closingSection andThen
 returns-3 c =
     rw (
-      ← (c .before .before .before .before .before .before .before .before .before .before .byte-at .ensures .0),
+      ← (c .before .before .before .before .before .before .before .before .before .before .before .byte-at .ensures .0),
+      ← (c .before .before .before .before .before .before .before .before .before .before .byte-at2 .ensures .0),
       ← (c .before .before .before .before .before .before .before .before .labels .ensures),
       c .before .before .before .before .before .before .x .given .1,
       ← (c .before .before .before .before .nodes .ensures),
@@ -57,10 +61,11 @@ returns-3 c =
     (search picks depth 15)
 
 returns-4 : tie.Need-returns-4
-unfolding documentPlace andThen
+unfolding documentSection closingSection andThen
 returns-4 c =
     rw (
-      ← (c .before .before .before .before .before .before .before .before .before .byte-at .ensures .0),
+      ← (c .before .before .before .before .before .before .before .before .before .before .byte-at .ensures .0),
+      ← (c .before .before .before .before .before .before .before .before .before .byte-at2 .ensures .0),
       ← (c .before .before .before .before .before .before .before .labels .ensures),
       c .before .before .before .before .before .x .given .1,
       ← (c .before .before .before .nodes .ensures),
@@ -69,10 +74,11 @@ returns-4 c =
     (search picks depth 15)
 
 returns-5 : tie.Need-returns-5
-unfolding documentPlace andThen
+unfolding documentSection closingSection andThen
 returns-5 c =
     rw (
-      ← (c .before .before .before .before .before .byte-at .ensures .0),
+      ← (c .before .before .before .before .before .before .byte-at .ensures .0),
+      ← (c .before .before .before .before .before .byte-at2 .ensures .0),
       ← (c .before .before .before .labels .ensures),
       c .before .m2 .given .1,
     )
@@ -84,6 +90,7 @@ document-spec =
     (tie.spec
     returns
     byte-at-requires
+    byte-at-requires-2
     add-if2
     returns-2
     labels-requires

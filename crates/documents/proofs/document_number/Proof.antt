@@ -1,11 +1,11 @@
 -- `documents::document_number` meets its contract.
-use Rattle.documents.specs.DocumentRead.{document-number}
 use Rattle.places.specs.Bytes.{numberAt}
 use denote.Ref.{now}
 use mathlib.Core.Path.{sym, _∙_, ap}
 use borrow.Author.Needs.{needs}
 use Rattle.documents.proofs.document_number.Statement.{statement}
 use Rattle.documents.proofs.document_number.Tie as tie
+use Rattle.documents.specs.DocumentJudged.{document-number}
 
 both-requires : tie.Need-both-requires
 both-requires c κs = search needs

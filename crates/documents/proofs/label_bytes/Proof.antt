@@ -1,14 +1,14 @@
 -- `documents::label_bytes` meets its contract.
-use Rattle.labels.specs.Places.{textAt, afterLabel}
 use Rattle.base.specs.Standing.{placeAfter}
 use Prim.Native.Nat.{ℕ, _-_}
-use Rattle.documents.specs.LabelRead.{part-refused, part-zero, part-of-sheet, part-of-document, part-over}
 use native.Mathlib.Omega.{arith}
 use denote.Ref.{now}
 use mathlib.Core.Path.{sym, _∙_, ap}
 use borrow.Author.Needs.{needs}
 use Rattle.documents.proofs.label_bytes.Statement.{statement}
 use Rattle.documents.proofs.label_bytes.Tie as tie
+use Rattle.labels.specs.LabelPlaces.{textAt, afterLabel}
+use Rattle.documents.specs.LabelNumbers.{part-refused, part-zero, part-of-sheet, part-of-document, part-over}
 
 both-requires : tie.Need-both-requires
 both-requires c κs = search needs

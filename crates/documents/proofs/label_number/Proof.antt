@@ -1,11 +1,11 @@
 -- `documents::label_number` meets its contract.
-use Rattle.documents.specs.LabelRead.{number-there, number-zero, number-over, number-refused}
 use native.Mathlib.Omega.{arith}
 use denote.Ref.{now}
 use mathlib.Core.Path.{sym, _∙_}
 use borrow.Author.Needs.{needs}
 use Rattle.documents.proofs.label_number.Statement.{statement}
 use Rattle.documents.proofs.label_number.Tie as tie
+use Rattle.documents.specs.LabelNumbers.{number-there, number-zero, number-over, number-refused}
 
 both-requires : tie.Need-both-requires
 both-requires c κs = search needs

@@ -1,19 +1,19 @@
 -- `documents::node` meets its contract.
-use Rattle.documents.specs.Judging.{nodePlace}
 use Rattle.base.specs.Choice.{picks}
 use borrow.Author.Needs.{needs}
 use Rattle.documents.proofs.node.Statement.{statement}
 use Rattle.documents.proofs.node.Tie as tie
+use Rattle.documents.specs.DocumentSection.{nodeSection, nodeLabel}
 
 returns : tie.Need-returns
-unfolding nodePlace
+unfolding nodeSection nodeLabel
 returns c = search picks depth 15
 
 add-if2 : tie.Need-add-if2
 add-if2 c = search needs
 
 returns-2 : tie.Need-returns-2
-unfolding nodePlace
+unfolding nodeSection nodeLabel
 returns-2 c = search picks depth 15
 
 pair-at-requires : tie.Need-pair-at-requires
@@ -32,11 +32,11 @@ node-label-requires : tie.Need-node-label-requires
 node-label-requires c κs = search needs
 
 returns-3 : tie.Need-returns-3
-unfolding nodePlace
+unfolding nodeSection nodeLabel
 returns-3 c = rw (← (c .before .before .before .pair-at .ensures .0), ← (c .before .before .node-parent .ensures)) (search picks depth 15)
 
 returns-4 : tie.Need-returns-4
-unfolding nodePlace
+unfolding nodeSection nodeLabel
 returns-4 c = rw (← (c .before .before .pair-at .ensures .0), ← (c .before .node-parent .ensures)) (search picks depth 15)
 
 pub node-spec : {M : Type 1} → statement M

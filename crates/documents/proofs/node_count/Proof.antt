@@ -1,8 +1,8 @@
 -- `documents::node_count` meets its contract.
-use Rattle.documents.specs.Judging.{nodeCountAt}
 use borrow.Author.Needs.{needs}
 use Rattle.documents.proofs.node_count.Statement.{statement}
 use Rattle.documents.proofs.node_count.Tie as tie
+use Rattle.documents.specs.DocumentSection.{nodeCountAt}
 
 byte-at-requires : tie.Need-byte-at-requires
 byte-at-requires c κs = search needs

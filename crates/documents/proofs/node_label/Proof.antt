@@ -1,9 +1,9 @@
 -- `documents::node_label` meets its contract.
-use Rattle.documents.specs.Judging.{nodeLabel}
 use Rattle.base.specs.Choice.{picks}
 use borrow.Author.Needs.{needs}
 use Rattle.documents.proofs.node_label.Statement.{statement}
 use Rattle.documents.proofs.node_label.Tie as tie
+use Rattle.documents.specs.DocumentSection.{nodeLabel}
 
 returns : tie.Need-returns
 unfolding nodeLabel

@@ -1,9 +1,9 @@
 -- `documents::node_place` meets its contract.
-use Rattle.documents.specs.Judging.{nodeCountAt}
 use native.Mathlib.Omega.{arith}
 use borrow.Author.Needs.{needs}
 use Rattle.documents.proofs.node_place.Statement.{statement}
 use Rattle.documents.proofs.node_place.Tie as tie
+use Rattle.documents.specs.DocumentSection.{nodeCountAt}
 
 byte-at-requires : tie.Need-byte-at-requires
 byte-at-requires c κs = search needs

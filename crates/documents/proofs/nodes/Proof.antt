@@ -1,11 +1,11 @@
 -- `documents::nodes` meets its contract.
 use Prim.Native.Nat.{_<_}
-use Rattle.documents.specs.Judging.{nodesPlace}
 use Rattle.base.specs.Choice.{picks}
 use native.Mathlib.Omega.{arith}
 use borrow.Author.Needs.{needs}
 use Rattle.documents.proofs.nodes.Statement.{statement}
 use Rattle.documents.proofs.nodes.Tie as tie
+use Rattle.documents.specs.DocumentSection.{nodesPlace}
 
 returns : tie.Need-returns
 unfolding nodesPlace

@@ -5,11 +5,11 @@ use Prim.Native.Nat.{_-_}
 use denote.Ref.{now}
 use Rattle.base.specs.Loops.{run, run-starts, run-ends}
 use Rattle.places.specs.Turns.{reads-on, reads-fault}
-use Rattle.documents.specs.Judging.{nodePlace}
 use borrow.Author.Needs.{needs}
 use native.Mathlib.Omega.{arith}
 use Rattle.documents.proofs.nodes_from.Statement.{statement}
 use Rattle.documents.proofs.nodes_from.Tie as tie
+use Rattle.documents.specs.DocumentSection.{nodePlace}
 
 abbrev Inv-loop : tie.InvT-loop
 Inv-loop d known p n i₀ x₀ i x = run (nodePlace d known) (n - i) i x ≡ run (nodePlace d known) n 0 p

@@ -8,8 +8,7 @@ use lib.ListN.{drop}
 use Rattle.base.specs.Lists.{every}
 use Rattle.base.specs.Along.{every-goes-on, every-stops, every-ends}
 use Rattle.meaning.specs.Building.{noEntry}
-use Rattle.tables.specs.Judging.{entryAt}
-use Rattle.tables.specs.Standing.{tableAt}
+use Rattle.tables.specs.TableSection.{entryTaken, tableAt}
 use Rattle.fairness.specs.Each.{isFit, fit-here}
 use Rattle.fairness.proofs.all_fit.Statement.{statement}
 use Rattle.fairness.proofs.all_fit.Tie as tie
@@ -36,7 +35,7 @@ members-fit-requires : tie.Need-members-fit-requires Inv-loop μ-loop
 members-fit-requires c κs = c .before .before .before .before .before .pre .1
 
 returns : tie.Need-returns Inv-loop μ-loop
-unfolding entryAt
+unfolding entryTaken
 returns c =
     let l = c .before .before .before .before .before in
     let stand = l .before .before .pre .0 in
@@ -50,7 +49,7 @@ loop-less : tie.Need-loop-less Inv-loop μ-loop
 loop-less c = omega arith
 
 loop-again : tie.Need-loop-again Inv-loop μ-loop
-unfolding entryAt
+unfolding entryTaken
 loop-again c =
     let l = c .before .before .before .before .before in
     let stand = l .before .before .pre .0 in

@@ -6,12 +6,12 @@ use borrow.Author.Needs.{needs}
 use borrow.Author.Tests.{not-true, not-false}
 use lib.ListN.{drop}
 use Rattle.meaning.specs.Fair.{eachInOne}
-use Rattle.reading.specs.Places.{sheetAt}
+use Rattle.reading.specs.SheetPlaces.{sheetAt}
 use Rattle.patterns.specs.Subscribed.{pattern-here}
-use Rattle.tables.specs.Standing.{tableAt}
 use Rattle.fairness.specs.Each.{each-goes-on, each-stops, each-ends}
 use Rattle.fairness.proofs.all_stand.Statement.{statement}
 use Rattle.fairness.proofs.all_stand.Tie as tie
+use Rattle.tables.specs.TableSection.{tableAt}
 
 abbrev Inv-loop : tie.InvT-loop
 Inv-loop s t entries members subscriptions i₀ i =

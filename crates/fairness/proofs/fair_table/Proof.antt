@@ -1,7 +1,7 @@
 -- `fairness::fair_table` meets its contract: the bytes of both first, 12 last.
 use mathlib.Core.Path.{sym, _∙_}
 use borrow.Author.Needs.{needs}
-use Rattle.fairness.specs.Judged.{both-stand, place-fair, place-not-fair, place-refused}
+use Rattle.fairness.specs.FairJudged.{both-stand, place-fair, place-not-fair, place-refused}
 use Rattle.fairness.proofs.fair_table.Statement.{statement}
 use Rattle.fairness.proofs.fair_table.Tie as tie
 

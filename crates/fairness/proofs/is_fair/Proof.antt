@@ -1,6 +1,6 @@
 -- `fairness::is_fair` meets its contract: the entries first, then each subscription.
 use borrow.Author.Tests.{not-true, not-false}
-use Rattle.fairness.specs.Judged.{not-fit, all-fit}
+use Rattle.fairness.specs.FairJudged.{not-fit, all-fit}
 use Rattle.fairness.proofs.is_fair.Statement.{statement}
 use Rattle.fairness.proofs.is_fair.Tie as tie
 

@@ -7,10 +7,10 @@ use lib.ListN.{drop}
 use Rattle.base.specs.Along.{foldAlong, along-goes-on, along-ends}
 use Rattle.shapes.specs.Shapes.{patternOf}
 use Rattle.meaning.specs.Building.{noEntry}
-use Rattle.tables.specs.Standing.{tableAt}
 use Rattle.fairness.specs.Weighing.{weighed, one-weighed}
 use Rattle.fairness.proofs.stands.Statement.{statement}
 use Rattle.fairness.proofs.stands.Tie as tie
+use Rattle.tables.specs.TableSection.{tableAt}
 
 abbrev Inv-loop : tie.InvT-loop
 Inv-loop t i p entries members found₀ j₀ found j =

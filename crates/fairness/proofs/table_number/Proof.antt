@@ -2,7 +2,7 @@
 use mathlib.Core.Path.{sym, ap, _∙_}
 use borrow.Author.Needs.{needs}
 use Rattle.places.specs.Bytes.{numberAt}
-use Rattle.fairness.specs.Judged.{table-number}
+use Rattle.fairness.specs.FairJudged.{table-number}
 use Rattle.fairness.proofs.table_number.Statement.{statement}
 use Rattle.fairness.proofs.table_number.Tie as tie
 

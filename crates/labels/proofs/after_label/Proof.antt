@@ -1,7 +1,7 @@
 -- `reading::labels::after_label` meets its contract.
 use native.Mathlib.Omega.{arith}
 use Rattle.base.specs.Choice.{picks}
-use Rattle.labels.specs.Places.{afterLabel}
+use Rattle.labels.specs.LabelPlaces.{afterLabel}
 use borrow.Author.Needs.{needs}
 use Rattle.labels.proofs.after_label.Statement.{statement}
 use Rattle.labels.proofs.after_label.Tie as tie

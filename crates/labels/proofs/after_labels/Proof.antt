@@ -4,7 +4,7 @@ use mathlib.Core.Path.{_≡_}
 use Prim.Native.Nat.{_+_, _*_, _-_, _≤_}
 use denote.Ref.{now}
 use Rattle.base.specs.Standing.{placeAfter, place-starts, place-goes-on, place-ends}
-use Rattle.labels.specs.Places.{afterLabel}
+use Rattle.labels.specs.LabelPlaces.{afterLabel}
 use borrow.Author.Needs.{needs}
 use native.Mathlib.Omega.{arith}
 use Rattle.labels.proofs.after_labels.Statement.{statement}

@@ -1,25 +1,26 @@
 -- `reading::labels::label` meets its contract.
 use Prim.Native.Nat.{_<_}
 use Rattle.base.specs.Choice.{picks}
-use Rattle.labels.specs.Judging.{labelPlace}
+use Rattle.labels.specs.LabelPlaces.{textAt}
+use Rattle.labels.specs.LabelSection.{labelSection}
 use native.Mathlib.Omega.{arith}
 use borrow.Author.Needs.{needs}
 use Rattle.labels.proofs.label.Statement.{statement}
 use Rattle.labels.proofs.label.Tie as tie
 
 returns : tie.Need-returns
-unfolding labelPlace
+unfolding labelSection
 returns c = search picks depth 15
 
 byte-at-requires : tie.Need-byte-at-requires
 byte-at-requires c κs = search needs
 
 returns-2 : tie.Need-returns-2
-unfolding labelPlace
+unfolding labelSection
 returns-2 c = rw (← (c .before .byte-at .ensures .0)) (search picks depth 15)
 
 returns-3 : tie.Need-returns-3
-unfolding labelPlace
+unfolding labelSection
 returns-3 c =
     let over : 60 < c .before .before .byte-at .result = omega arith in
     rw (← (c .before .before .byte-at .ensures .0)) (search picks depth 15)
@@ -31,7 +32,7 @@ sub-if4 : tie.Need-sub-if4
 sub-if4 c = search needs
 
 returns-4 : tie.Need-returns-4
-unfolding labelPlace
+unfolding labelSection
 returns-4 c = rw (← (c .before .before .before .byte-at .ensures .0)) (search picks depth 15)
 
 text-at-requires : tie.Need-text-at-requires
@@ -41,11 +42,11 @@ occurs-requires : tie.Need-occurs-requires
 occurs-requires c κs = search needs
 
 returns-5 : tie.Need-returns-5
-unfolding labelPlace
+unfolding labelSection textAt
 returns-5 c =
     rw (
-      ← (c .before .before .before .before .before .before .byte-at .ensures .0),
       ← (c .before .before .text-at .ensures),
+      ← (c .before .before .before .before .before .before .byte-at .ensures .0),
       ← (c .before .occurs .ensures),
     )
     (search picks depth 15)
@@ -54,11 +55,11 @@ occurs-requires-2 : tie.Need-occurs-requires-2
 occurs-requires-2 c κs = search needs
 
 returns-6 : tie.Need-returns-6
-unfolding labelPlace
+unfolding labelSection textAt
 returns-6 c =
     rw (
-      ← (c .before .before .before .before .before .before .before .before .byte-at .ensures .0),
       ← (c .before .before .before .before .text-at .ensures),
+      ← (c .before .before .before .before .before .before .before .before .byte-at .ensures .0),
       ← (c .before .before .before .occurs .ensures),
       ← (c .before .occurs2 .ensures),
     )
@@ -71,11 +72,11 @@ add-t11 : tie.Need-add-t11
 add-t11 c = search needs
 
 returns-7 : tie.Need-returns-7
-unfolding labelPlace
+unfolding labelSection textAt
 returns-7 c =
     rw (
-      ← (c .before .before .before .before .before .before .before .before .byte-at .ensures .0),
       ← (c .before .before .before .before .text-at .ensures),
+      ← (c .before .before .before .before .before .before .before .before .byte-at .ensures .0),
       ← (c .before .before .before .occurs .ensures),
       ← (c .before .occurs2 .ensures),
     )

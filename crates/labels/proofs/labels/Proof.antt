@@ -5,7 +5,7 @@ use Prim.Native.Nat.{_-_}
 use denote.Ref.{now}
 use Rattle.base.specs.Loops.{run, run-starts, run-ends}
 use Rattle.places.specs.Turns.{reads-on, reads-fault}
-use Rattle.labels.specs.Judging.{labelPlace, labelsPlace}
+use Rattle.labels.specs.LabelSection.{labelPlace, labelsSection}
 use borrow.Author.Needs.{needs}
 use native.Mathlib.Omega.{arith}
 use Rattle.labels.proofs.labels.Statement.{statement}
@@ -32,7 +32,7 @@ enum-known-m : tie.Need-enum-known-m Inv-loop μ-loop
 enum-known-m c = search needs
 
 returns : tie.Need-returns Inv-loop μ-loop
-unfolding labelsPlace
+unfolding labelsSection run
 returns c =
     let a = c .before .before .before .before .before .before .before .before .args in
     let l = c .before .before .before .before .before .loop in
@@ -51,7 +51,7 @@ loop-again c =
     reads-on (labelPlace (now (a .s)) (a .k) (now (a .d)) (a .p)) (a .n) (l .i) (l .x) _ (c .before .before .before .label .result) (c .before .y .given .0 .0) (omega arith) (c .before .before .before .label .ensures) (c .before .y .given .1) (l .inv)
 
 returns-2 : tie.Need-returns-2 Inv-loop μ-loop
-unfolding labelsPlace
+unfolding labelsSection run
 returns-2 c =
     let a = c .before .before .before .before .args in
     let l = c .before .loop in

@@ -6,7 +6,7 @@ use denote.Ref.{now}
 use Rattle.base.specs.Standing.{standing, some-starts, some-hits, some-goes-on, some-ends}
 use Rattle.meaning.specs.Sections.{sameLabel}
 use Rattle.base.specs.Lists.{some}
-use Rattle.labels.specs.Places.{textAt, afterLabel, textsAt}
+use Rattle.labels.specs.LabelPlaces.{textAt, afterLabel, textsAt}
 use borrow.Author.Needs.{needs}
 use native.Mathlib.Omega.{arith}
 use Rattle.labels.proofs.occurs.Statement.{statement}

@@ -1,5 +1,5 @@
 -- `patterns::after_pattern` meets its contract.
-use Rattle.reading.specs.Places.{afterPattern}
+use Rattle.reading.specs.SheetPlaces.{afterPattern}
 use native.Mathlib.Omega.{arith}
 use borrow.Author.Needs.{needs}
 use Rattle.patterns.proofs.after_pattern.Statement.{statement}

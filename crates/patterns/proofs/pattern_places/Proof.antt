@@ -1,7 +1,7 @@
 -- `patterns::pattern_places` meets its contract.
 -- The invariant: what is filled is what stands there, and x is where the next one stands; the measure: what is left.
 use Rattle.patterns.specs.Taken.{itself, patternPlaces}
-use Rattle.reading.specs.Places.{afterPattern}
+use Rattle.reading.specs.SheetPlaces.{afterPattern}
 use native.Mathlib.Omega.{arith}
 use lib.ListN.{length, length-set}
 use mathlib.Core.Path.{_≡_, refl, _∙_}

@@ -1,5 +1,5 @@
 -- `patterns::step_at` meets its contract.
-use Rattle.reading.specs.Places.{stepAt}
+use Rattle.reading.specs.SheetPlaces.{stepAt}
 use borrow.Author.Needs.{needs}
 use Rattle.patterns.proofs.step_at.Statement.{statement}
 use Rattle.patterns.proofs.step_at.Tie as tie

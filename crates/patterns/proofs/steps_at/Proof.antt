@@ -1,6 +1,6 @@
 -- `patterns::steps_at` meets its contract.
 -- The invariant: what is filled is what stands there, and x is where the next one stands; the measure: what is left.
-use Rattle.reading.specs.Places.{stepAt, afterStep, stepsAt}
+use Rattle.reading.specs.SheetPlaces.{stepAt, afterStep, stepsAt}
 use native.Mathlib.Omega.{arith}
 use lib.ListN.{length, length-set}
 use mathlib.Core.Path.{_≡_, refl, _∙_}

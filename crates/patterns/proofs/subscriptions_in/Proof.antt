@@ -1,6 +1,6 @@
 -- `patterns::subscriptions_in` meets its contract.
 use borrow.Author.Tests.{le-leb, lt-leb}
-use Rattle.reading.specs.Places.{patternCountAt}
+use Rattle.reading.specs.SheetPlaces.{patternCountAt}
 use Rattle.patterns.specs.Taken.{subscriptionCount, subscriptionsOf}
 use Rattle.base.specs.Choice.{pick}
 use borrow.Author.Needs.{needs}

@@ -1,13 +1,13 @@
 -- `reading::sheet` meets its contract.
 use Rattle.base.specs.Choice.{picks}
 use Rattle.base.specs.Loops.{andThen}
-use Rattle.reading.specs.Judging.{sheetPlace}
 use borrow.Author.Needs.{needs}
 use Rattle.reading.proofs.sheet.Statement.{statement}
 use Rattle.reading.proofs.sheet.Tie as tie
+use Rattle.reading.specs.SheetSection.{sheetSection, closingSection}
 
 returns : tie.Need-returns
-unfolding sheetPlace
+unfolding sheetSection
 returns c = search picks depth 15
 
 byte-at-requires : tie.Need-byte-at-requires
@@ -35,7 +35,7 @@ enum-known-m-2 : tie.Need-enum-known-m-2
 enum-known-m-2 c = search needs
 
 returns-2 : tie.Need-returns-2
-unfolding sheetPlace andThen
+unfolding sheetSection closingSection andThen
 returns-2 c =
     rw (
       ← (c .before .before .before .before .before .before .before .before .before .byte-at .ensures .0),
@@ -47,7 +47,7 @@ returns-2 c =
     (search picks depth 15)
 
 returns-3 : tie.Need-returns-3
-unfolding sheetPlace andThen
+unfolding sheetSection closingSection andThen
 returns-3 c =
     rw (
       ← (c .before .before .before .before .before .before .before .before .byte-at .ensures .0),
@@ -59,7 +59,7 @@ returns-3 c =
     (search picks depth 15)
 
 returns-4 : tie.Need-returns-4
-unfolding sheetPlace andThen
+unfolding sheetSection closingSection andThen
 returns-4 c =
     rw (
       ← (c .before .before .before .before .byte-at .ensures .0),

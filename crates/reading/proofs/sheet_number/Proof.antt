@@ -2,10 +2,10 @@
 use mathlib.Core.Path.{sym, _∙_, ap}
 use denote.Ref.{now}
 use Rattle.places.specs.Bytes.{numberAt}
-use Rattle.reading.specs.SheetRead.{sheet-number}
 use borrow.Author.Needs.{needs}
 use Rattle.reading.proofs.sheet_number.Statement.{statement}
 use Rattle.reading.proofs.sheet_number.Tie as tie
+use Rattle.reading.specs.SheetSection.{sheet-number}
 
 sheet-requires : tie.Need-sheet-requires
 sheet-requires c κs = search needs

@@ -6,12 +6,13 @@ use borrow.Author.Needs.{needs}
 use lib.ListN.{drop}
 use Rattle.base.specs.Along.{foldAlong, along-ends}
 use Rattle.shapes.specs.Shapes.{nodesAt}
-use Rattle.reading.specs.Places.{sheetAt}
+use Rattle.reading.specs.SheetPlaces.{sheetAt}
 use Rattle.meaning.specs.Building.{noEntry}
-use Rattle.tables.specs.Standing.{tableAt, entry-here}
+use Rattle.tables.specs.TableJudged.{entry-here}
 use Rattle.routing.specs.Tabling.{start, askEntry, routeBy, entry-tried-few, entries-go-on}
 use Rattle.routing.proofs.ask_entries.Statement.{statement}
 use Rattle.routing.proofs.ask_entries.Tie as tie
+use Rattle.tables.specs.TableSection.{tableAt}
 
 abbrev Inv-loop : tie.InvT-loop
 Inv-loop s subscriptions t d at n entries so-far₀ j₀ so-far j =

@@ -7,7 +7,7 @@ use Rattle.base.specs.Loops.{foldN}
 use Rattle.base.specs.Along.{foldN-starts, foldN-ends}
 use Rattle.meaning.specs.Satisfying.{satisfies}
 use Rattle.shapes.specs.Shapes.{nodesAt}
-use Rattle.reading.specs.Places.{sheetAt}
+use Rattle.reading.specs.SheetPlaces.{sheetAt}
 use Rattle.routing.specs.Tabling.{askMember, askMembers, member-tried-few, members-go-on}
 use Rattle.routing.proofs.ask_members.Statement.{statement}
 use Rattle.routing.proofs.ask_members.Tie as tie

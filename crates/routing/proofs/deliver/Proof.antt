@@ -5,7 +5,7 @@ use native.Mathlib.Omega.{arith}
 use borrow.Author.Needs.{needs}
 use Rattle.meaning.specs.Satisfying.{satisfies}
 use Rattle.shapes.specs.Shapes.{nodesAt}
-use Rattle.reading.specs.Places.{sheetAt}
+use Rattle.reading.specs.SheetPlaces.{sheetAt}
 use Rattle.patterns.specs.Subscribed.{subscriptions-stand}
 use Rattle.routing.specs.Plain.{firstDelivered, none-delivered, next-delivered, all-delivered}
 use Rattle.routing.proofs.deliver.Statement.{statement}

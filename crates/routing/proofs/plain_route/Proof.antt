@@ -1,7 +1,7 @@
 -- `routing::plain_route` meets its contract: by the places that were reached.
 use mathlib.Core.Path.{sym, _∙_}
 use borrow.Author.Needs.{needs}
-use Rattle.routing.specs.Judged.{both-stand}
+use Rattle.documents.specs.DocumentJudged.{both-stand}
 use Rattle.routing.specs.Answers.{plain-refused, plain-delivered}
 use Rattle.routing.proofs.plain_route.Statement.{statement}
 use Rattle.routing.proofs.plain_route.Tie as tie

@@ -1,7 +1,7 @@
 -- `routing::subscription_matches` meets its contract: by the places that were reached.
 use mathlib.Core.Path.{sym, _∙_}
 use borrow.Author.Needs.{needs}
-use Rattle.routing.specs.Judged.{both-stand}
+use Rattle.documents.specs.DocumentJudged.{both-stand}
 use Rattle.routing.specs.Answers.{match-refused, match-answered}
 use Rattle.routing.proofs.subscription_matches.Statement.{statement}
 use Rattle.routing.proofs.subscription_matches.Tie as tie

@@ -1,7 +1,7 @@
 -- `routing::table_route` meets its contract: by the places that were reached, the document last.
 use mathlib.Core.Path.{sym, _∙_}
-use Rattle.fairness.specs.Judged.{fair-stand}
-use Rattle.routing.specs.Judged.{document-stands-at}
+use Rattle.fairness.specs.FairJudged.{fair-stand}
+use Rattle.documents.specs.DocumentJudged.{document-stands}
 use Rattle.routing.specs.Answers.{table-refused, document-refused, table-delivered}
 use borrow.Author.Needs.{needs}
 use Rattle.routing.proofs.table_route.Statement.{statement}
@@ -12,9 +12,6 @@ fair-table-requires c κs = search needs
 
 enum-known-x : tie.Need-enum-known-x
 enum-known-x c = search needs
-
-byte-at-requires : tie.Need-byte-at-requires
-byte-at-requires c κs = search needs
 
 document-requires : tie.Need-document-requires
 document-requires c κs = search needs
@@ -37,11 +34,11 @@ node-count-requires c κs = search needs
 ask-entries-requires : tie.Need-ask-entries-requires
 ask-entries-requires c κs =
     let y = c .before .before .before .before .before in
-    let x = y .before .before .before .before .before in
+    let x = y .before .before .before .before in
     let both = fair-stand _ _ _ _ _ (sym (x .before .before .fair-table .ensures) ∙ x .x .given .1) (c .before .before .before .subscriptions-in .ensures) (c .before .before .entries-in .ensures) in (
       both .0,
       both .1,
-      document-stands-at _ _ _ _ _ _ (sym (y .before .before .document .ensures) ∙ y .y .given .1) (y .before .before .before .byte-at .ensures .0) (c .before .node-place .ensures .0) (c .node-count .ensures .0),
+      document-stands _ _ _ _ _ (sym (y .before .before .document .ensures) ∙ y .y .given .1) (c .before .node-place .ensures .0) (c .node-count .ensures .0),
     )
 
 enum-known-m : tie.Need-enum-known-m
@@ -53,15 +50,15 @@ enum-known-m-2 c = search needs
 returns : tie.Need-returns
 returns c =
     let y = c .before .before .before .before .before .before in
-    let x = y .before .before .before .before .before in
-    table-delivered _ _ _ _ _ (sym (x .before .before .fair-table .ensures) ∙ x .x .given .1) (y .before .before .before .byte-at .ensures .0) _ _ _ _
+    let x = y .before .before .before .before in
+    table-delivered _ _ _ _ (sym (x .before .before .fair-table .ensures) ∙ x .x .given .1) _ _ _ _
     (sym (y .before .before .document .ensures) ∙ y .y .given .1) (c .before .before .node-place .ensures .0) (c .before .node-count .ensures .0) (c .ask-entries .ensures)
 
 returns-2 : tie.Need-returns-2
 returns-2 c =
     let asked = c .before .before .before in
-    let x = asked .before .before .before in
-    document-refused _ _ _ _ _ (sym (x .before .before .fair-table .ensures) ∙ x .x .given .1) (asked .before .byte-at .ensures .0) _ (sym (asked .document .ensures) ∙ c .before .m .given .1)
+    let x = asked .before .before in
+    document-refused _ _ _ _ (sym (x .before .before .fair-table .ensures) ∙ x .x .given .1) _ (sym (asked .document .ensures) ∙ c .before .m .given .1)
 
 returns-3 : tie.Need-returns-3
 returns-3 c = table-refused _ _ _ _ (sym (c .before .before .before .fair-table .ensures) ∙ c .before .m2 .given .1)
@@ -72,7 +69,6 @@ table-route-spec =
     (tie.spec
     fair-table-requires
     enum-known-x
-    byte-at-requires
     document-requires
     enum-known-y
     subscriptions-in-requires

@@ -1,18 +1,15 @@
 -- `tables::both` meets its contract.
 use Rattle.base.specs.Loops.{andThen}
-use Rattle.tables.specs.Judging.{bothPlace}
 use borrow.Author.Needs.{needs}
 use Rattle.tables.proofs.both.Statement.{statement}
 use Rattle.tables.proofs.both.Tie as tie
+use Rattle.tables.specs.TableSection.{bothPlace}
 
 sheet-requires : tie.Need-sheet-requires
 sheet-requires c κs = search needs
 
 enum-known-x : tie.Need-enum-known-x
 enum-known-x c = search needs
-
-byte-at-requires : tie.Need-byte-at-requires
-byte-at-requires c κs = search needs
 
 table-requires : tie.Need-table-requires
 table-requires c κs = search needs
@@ -22,13 +19,7 @@ enum-known-m c = search needs
 
 returns : tie.Need-returns
 unfolding bothPlace andThen
-returns c =
-    rw (
-      ← (c .before .before .before .before .before .sheet .ensures),
-      c .before .before .before .x .given .1,
-      ← (c .before .byte-at .ensures .0),
-    )
-    (c .table .ensures)
+returns c = rw (← (c .before .before .before .before .sheet .ensures), c .before .before .x .given .1) (c .table .ensures)
 
 returns-2 : tie.Need-returns-2
 unfolding bothPlace andThen
@@ -40,7 +31,6 @@ both-spec =
     (tie.spec
     sheet-requires
     enum-known-x
-    byte-at-requires
     table-requires
     enum-known-m
     returns

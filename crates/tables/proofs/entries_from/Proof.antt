@@ -5,14 +5,15 @@ use Prim.Native.Nat.{_-_}
 use denote.Ref.{now}
 use Rattle.base.specs.Loops.{run, run-starts, run-ends}
 use Rattle.places.specs.Turns.{reads-on, reads-fault}
-use Rattle.tables.specs.Judging.{entryPlace}
 use borrow.Author.Needs.{needs}
 use native.Mathlib.Omega.{arith}
 use Rattle.tables.proofs.entries_from.Statement.{statement}
 use Rattle.tables.proofs.entries_from.Tie as tie
+use Rattle.tables.specs.TableSection.{entrySection}
+use Rattle.places.specs.InTurn.{eachPlace}
 
 abbrev Inv-loop : tie.InvT-loop
-Inv-loop t known p n i₀ x₀ i x = run (entryPlace t known) (n - i) i x ≡ run (entryPlace t known) n 0 p
+Inv-loop t known p n i₀ x₀ i x = run (eachPlace (entrySection t known)) (n - i) i x ≡ run (eachPlace (entrySection t known)) n 0 p
 
 abbrev μ-loop : tie.MeasureT-loop
 μ-loop t known p n i₀ x₀ i x = n - i
@@ -20,7 +21,7 @@ abbrev μ-loop : tie.MeasureT-loop
 loop-holds : tie.Need-loop-holds Inv-loop μ-loop
 loop-holds c =
     let a = c .before .args in
-    sym (run-starts (entryPlace (now (a .t)) (a .known)) (a .n) 0 (a .p) (run (entryPlace (now (a .t)) (a .known)) (a .n) 0 (a .p)))
+    sym (run-starts (eachPlace (entrySection (now (a .t)) (a .known))) (a .n) 0 (a .p) (run (eachPlace (entrySection (now (a .t)) (a .known))) (a .n) 0 (a .p)))
 
 entry-requires : tie.Need-entry-requires Inv-loop μ-loop
 entry-requires c κs = search needs
@@ -35,7 +36,7 @@ returns : tie.Need-returns Inv-loop μ-loop
 returns c =
     let a = c .before .before .before .before .before .before .before .args in
     let l = c .before .before .before .before .before .loop in
-    reads-fault (entryPlace (now (a .t)) (a .known)) (a .n) (l .i) (l .x) _ (c .before .before .before .entry .result) (c .before .m .given .0 .0) (omega arith) (c .before .before .before .entry .ensures) (c .before .m .given .1) (l .inv)
+    reads-fault (eachPlace (entrySection (now (a .t)) (a .known))) (a .n) (l .i) (l .x) _ (c .before .before .before .entry .result) (c .before .m .given .0 .0) (omega arith) (c .before .before .before .entry .ensures) (c .before .m .given .1) (l .inv)
 
 add-i : tie.Need-add-i Inv-loop μ-loop
 add-i c = omega arith
@@ -47,13 +48,13 @@ loop-again : tie.Need-loop-again Inv-loop μ-loop
 loop-again c =
     let a = c .before .before .before .before .before .before .before .args in
     let l = c .before .before .before .before .before .loop in
-    reads-on (entryPlace (now (a .t)) (a .known)) (a .n) (l .i) (l .x) _ (c .before .before .before .entry .result) (c .before .y .given .0 .0) (omega arith) (c .before .before .before .entry .ensures) (c .before .y .given .1) (l .inv)
+    reads-on (eachPlace (entrySection (now (a .t)) (a .known))) (a .n) (l .i) (l .x) _ (c .before .before .before .entry .result) (c .before .y .given .0 .0) (omega arith) (c .before .before .before .entry .ensures) (c .before .y .given .1) (l .inv)
 
 returns-2 : tie.Need-returns-2 Inv-loop μ-loop
 returns-2 c =
     let a = c .before .before .before .args in
     let l = c .before .loop in
-    run-ends (entryPlace (now (a .t)) (a .known)) (a .n) (l .i) (l .x) _ (omega arith) (l .inv)
+    run-ends (eachPlace (entrySection (now (a .t)) (a .known))) (a .n) (l .i) (l .x) _ (omega arith) (l .inv)
 
 pub entries-from-spec : {M : Type 1} → statement M
 entries-from-spec =

@@ -1,10 +1,10 @@
 -- `tables::entries_in` meets its contract.
 use borrow.Author.Tests.{le-leb, lt-leb}
-use Rattle.tables.specs.Judging.{entriesOf}
 use Rattle.base.specs.Choice.{pick}
 use borrow.Author.Needs.{needs}
 use Rattle.tables.proofs.entries_in.Statement.{statement}
 use Rattle.tables.proofs.entries_in.Tie as tie
+use Rattle.tables.specs.TableSection.{tableEntries}
 
 entry-places-requires : tie.Need-entry-places-requires
 entry-places-requires c κs = search needs
@@ -13,11 +13,11 @@ byte-at-requires : tie.Need-byte-at-requires
 byte-at-requires c κs = search needs
 
 returns : tie.Need-returns
-unfolding entriesOf pick
+unfolding tableEntries pick
 returns c = rw (← (c .before .byte-at .ensures .0), ← (c .before .before .entry-places .ensures), le-leb (c .before .byte-at .result) 64 (c .if1 .taken))
 
 returns-2 : tie.Need-returns-2
-unfolding entriesOf pick
+unfolding tableEntries pick
 returns-2 c = rw (← (c .before .byte-at .ensures .0), ← (c .before .before .entry-places .ensures), lt-leb (c .before .byte-at .result) 64 (c .if1 .left))
 
 pub entries-in-spec : {M : Type 1} → statement M

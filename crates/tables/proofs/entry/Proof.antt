@@ -4,7 +4,8 @@ use denote.Ref.{now}
 use Prim.Native.Nat.{_-_}
 use lib.ListN.{length}
 use borrow.Author.Tests.{leb-true}
-use Rattle.tables.specs.Judging.{entryPlace}
+use Rattle.tables.specs.TableSection.{entrySection}
+use Rattle.reading.specs.SheetSection.{patternSection}
 use Rattle.base.specs.Choice.{picks}
 use native.Mathlib.Omega.{arith}
 use borrow.Author.Needs.{needs}
@@ -23,11 +24,11 @@ pattern-requires : tie.Need-pattern-requires
 pattern-requires c κs = search needs
 
 returns : tie.Need-returns
-unfolding entryPlace
+unfolding entrySection patternSection
 returns c = rw (← (c .before .before .enough .ensures)) (search picks depth 15)
 
 returns-2 : tie.Need-returns-2
-unfolding entryPlace
+unfolding entrySection patternSection
 returns-2 c = rw (← (c .before .enough .ensures)) (search picks depth 15)
 
 pub entry-spec : {M : Type 1} → statement M

@@ -3,10 +3,10 @@ use native.Mathlib.Omega.{arith}
 use Prim.Native.Nat.{_+_}
 use denote.Ref.{now}
 use Rattle.patterns.specs.TakenRead.{pattern-past}
-use Rattle.tables.specs.Judging.{entryAt}
 use borrow.Author.Needs.{needs}
 use Rattle.tables.proofs.entry_at.Statement.{statement}
 use Rattle.tables.proofs.entry_at.Tie as tie
+use Rattle.tables.specs.TableSection.{entryTaken}
 
 members-at-requires : tie.Need-members-at-requires
 members-at-requires c κs = search needs
@@ -15,7 +15,7 @@ pattern-at-requires : tie.Need-pattern-at-requires
 pattern-at-requires c κs = search needs
 
 returns : tie.Need-returns
-unfolding entryAt
+unfolding entryTaken
 returns c =
     let a = c .before .before .before .before .args in
     rw (
@@ -31,7 +31,7 @@ pattern-at-requires-2 : tie.Need-pattern-at-requires-2
 pattern-at-requires-2 c κs = search needs
 
 returns-2 : tie.Need-returns-2
-unfolding entryAt
+unfolding entryTaken
 returns-2 c = rw (← (c .before .before .members-at .ensures), ← (c .pattern-at2 .ensures))
 
 pub entry-at-spec : {M : Type 1} → statement M

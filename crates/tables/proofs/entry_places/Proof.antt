@@ -1,6 +1,5 @@
 -- `tables::entry_places` meets its contract.
 -- The invariant: what is filled is what stands there, and x is where the next one stands; the measure: what is left.
-use Rattle.tables.specs.Judging.{afterEntry, entryPlaces}
 use Rattle.patterns.specs.Taken.{itself}
 use native.Mathlib.Omega.{arith}
 use lib.ListN.{length, length-set}
@@ -10,6 +9,7 @@ use denote.Ref.{now}
 use Rattle.base.specs.Standing.{Filled, fill-starts, fill-goes-on, fill-ends}
 use Rattle.tables.proofs.entry_places.Statement.{statement}
 use Rattle.tables.proofs.entry_places.Tie as tie
+use Rattle.tables.specs.TableSection.{afterEntry, entryPlaces}
 
 abbrev Inv-loop : tie.InvT-loop
 Inv-loop t places₀ i₀ x₀ places i x = (length places ≡ 64) × (i ≤ 64) × (x ≤ 1 + 774 * i) × Filled itself (afterEntry t) 1 places i x

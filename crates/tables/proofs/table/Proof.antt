@@ -1,25 +1,28 @@
 -- `tables::table` meets its contract.
 use Prim.Native.Nat.{_<_}
 use Rattle.base.specs.Loops.{andThen}
-use Rattle.tables.specs.Judging.{tablePlace}
 use Rattle.base.specs.Choice.{picks}
 use native.Mathlib.Omega.{arith}
 use borrow.Author.Needs.{needs}
 use Rattle.tables.proofs.table.Statement.{statement}
 use Rattle.tables.proofs.table.Tie as tie
+use Rattle.tables.specs.TableSection.{tableSection}
 
 returns : tie.Need-returns
-unfolding tablePlace
+unfolding tableSection
 returns c = search picks depth 15
 
 byte-at-requires : tie.Need-byte-at-requires
 byte-at-requires c κs = search needs
 
 returns-2 : tie.Need-returns-2
-unfolding tablePlace
+unfolding tableSection
 returns-2 c =
     let over : 64 < c .before .byte-at .result = omega arith in
     rw (← (c .before .byte-at .ensures .0)) (search picks depth 15)
+
+byte-at-requires-2 : tie.Need-byte-at-requires-2
+byte-at-requires-2 c κs = search needs
 
 entries-from-requires : tie.Need-entries-from-requires
 entries-from-requires c κs = search needs
@@ -34,20 +37,22 @@ enum-known-m : tie.Need-enum-known-m
 enum-known-m c = search needs
 
 returns-3 : tie.Need-returns-3
-unfolding tablePlace andThen
+unfolding tableSection andThen
 returns-3 c =
     rw (
-      ← (c .before .before .before .before .before .before .byte-at .ensures .0),
+      ← (c .before .before .before .before .before .before .before .byte-at .ensures .0),
+      ← (c .before .before .before .before .before .byte-at2 .ensures .0),
       ← (c .before .before .before .before .entries-from .ensures),
       c .before .before .y .given .1,
     )
     (search picks depth 15)
 
 returns-4 : tie.Need-returns-4
-unfolding tablePlace andThen
+unfolding tableSection andThen
 returns-4 c =
     rw (
-      ← (c .before .before .before .before .before .byte-at .ensures .0),
+      ← (c .before .before .before .before .before .before .byte-at .ensures .0),
+      ← (c .before .before .before .before .byte-at2 .ensures .0),
       ← (c .before .before .before .entries-from .ensures),
       c .before .m .given .1,
     )
@@ -60,6 +65,7 @@ table-spec =
     returns
     byte-at-requires
     returns-2
+    byte-at-requires-2
     entries-from-requires
     enum-known-y
     end-requires

@@ -3,7 +3,7 @@ use Prim.Native.Nat.{_-_}
 use mathlib.Core.Path.{refl}
 use native.Mathlib.Omega.{arith}
 use borrow.Author.Needs.{needs}
-use Rattle.reading.specs.Places.{sheetAt}
+use Rattle.reading.specs.SheetPlaces.{sheetAt}
 use Rattle.meaning.specs.Calls.{subscription}
 use Rattle.answers.specs.Growing.{FirstOnes, first-none, first-more, first-all}
 use Rattle.answers.proofs.built.first_entries.Statement.{statement}

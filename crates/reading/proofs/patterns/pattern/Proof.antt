@@ -1,21 +1,21 @@
 -- `reading::patterns::pattern` meets its contract.
 use Prim.Native.Nat.{_<_}
 use Rattle.base.specs.Choice.{picks}
-use Rattle.reading.specs.Judging.{patternPlace}
 use native.Mathlib.Omega.{arith}
 use borrow.Author.Needs.{needs}
 use Rattle.reading.proofs.patterns.pattern.Statement.{statement}
 use Rattle.reading.proofs.patterns.pattern.Tie as tie
+use Rattle.reading.specs.SheetSection.{patternSection}
 
 returns : tie.Need-returns
-unfolding patternPlace
+unfolding patternSection
 returns c = search picks depth 15
 
 byte-at-requires : tie.Need-byte-at-requires
 byte-at-requires c κs = search needs
 
 returns-2 : tie.Need-returns-2
-unfolding patternPlace
+unfolding patternSection
 returns-2 c =
     let over : 16 < c .before .byte-at .result = omega arith in
     rw (← (c .before .byte-at .ensures .0)) (search picks depth 15)
@@ -27,7 +27,7 @@ steps-requires : tie.Need-steps-requires
 steps-requires c κs = search needs
 
 returns-3 : tie.Need-returns-3
-unfolding patternPlace
+unfolding patternSection
 returns-3 c = rw (← (c .before .before .byte-at .ensures .0)) (search picks depth 15)
 
 pub pattern-spec : {M : Type 1} → statement M

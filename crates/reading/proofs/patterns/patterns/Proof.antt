@@ -1,9 +1,9 @@
 -- `reading::patterns::patterns` meets its contract.
 use Rattle.base.specs.Choice.{picks}
-use Rattle.reading.specs.Judging.{patternsPlace}
 use borrow.Author.Needs.{needs}
 use Rattle.reading.proofs.patterns.patterns.Statement.{statement}
 use Rattle.reading.proofs.patterns.patterns.Tie as tie
+use Rattle.reading.specs.SheetSection.{patternsPlace}
 
 returns : tie.Need-returns
 unfolding patternsPlace

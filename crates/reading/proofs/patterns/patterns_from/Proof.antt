@@ -5,14 +5,15 @@ use Prim.Native.Nat.{_-_}
 use denote.Ref.{now}
 use Rattle.base.specs.Loops.{run, run-starts, run-ends}
 use Rattle.places.specs.Turns.{reads-on, reads-fault}
-use Rattle.reading.specs.Judging.{nextPattern}
+use Rattle.reading.specs.SheetSection.{patternSection}
 use borrow.Author.Needs.{needs}
 use native.Mathlib.Omega.{arith}
 use Rattle.reading.proofs.patterns.patterns_from.Statement.{statement}
 use Rattle.reading.proofs.patterns.patterns_from.Tie as tie
+use Rattle.places.specs.InTurn.{eachPlace}
 
 abbrev Inv-loop : tie.InvT-loop
-Inv-loop s known p n i₀ x₀ i x = run (nextPattern s known) (n - i) i x ≡ run (nextPattern s known) n 0 p
+Inv-loop s known p n i₀ x₀ i x = run (eachPlace (patternSection s known)) (n - i) i x ≡ run (eachPlace (patternSection s known)) n 0 p
 
 abbrev μ-loop : tie.MeasureT-loop
 μ-loop s known p n i₀ x₀ i x = n - i
@@ -20,7 +21,7 @@ abbrev μ-loop : tie.MeasureT-loop
 loop-holds : tie.Need-loop-holds Inv-loop μ-loop
 loop-holds c =
     let a = c .before .args in
-    sym (run-starts (nextPattern (now (a .s)) (a .known)) (a .n) 0 (a .p) (run (nextPattern (now (a .s)) (a .known)) (a .n) 0 (a .p)))
+    sym (run-starts (eachPlace (patternSection (now (a .s)) (a .known))) (a .n) 0 (a .p) (run (eachPlace (patternSection (now (a .s)) (a .known))) (a .n) 0 (a .p)))
 
 pattern-requires : tie.Need-pattern-requires Inv-loop μ-loop
 pattern-requires c κs = search needs
@@ -32,11 +33,10 @@ enum-known-m : tie.Need-enum-known-m Inv-loop μ-loop
 enum-known-m c = search needs
 
 returns : tie.Need-returns Inv-loop μ-loop
-unfolding nextPattern
 returns c =
     let a = c .before .before .before .before .before .before .before .args in
     let l = c .before .before .before .before .before .loop in
-    reads-fault (nextPattern (now (a .s)) (a .known)) (a .n) (l .i) (l .x) _ (c .before .before .before .pattern .result) (c .before .m .given .0 .0) (omega arith) (c .before .before .before .pattern .ensures) (c .before .m .given .1) (l .inv)
+    reads-fault (eachPlace (patternSection (now (a .s)) (a .known))) (a .n) (l .i) (l .x) _ (c .before .before .before .pattern .result) (c .before .m .given .0 .0) (omega arith) (c .before .before .before .pattern .ensures) (c .before .m .given .1) (l .inv)
 
 add-i : tie.Need-add-i Inv-loop μ-loop
 add-i c = omega arith
@@ -45,17 +45,16 @@ loop-less : tie.Need-loop-less Inv-loop μ-loop
 loop-less c = omega arith
 
 loop-again : tie.Need-loop-again Inv-loop μ-loop
-unfolding nextPattern
 loop-again c =
     let a = c .before .before .before .before .before .before .before .args in
     let l = c .before .before .before .before .before .loop in
-    reads-on (nextPattern (now (a .s)) (a .known)) (a .n) (l .i) (l .x) _ (c .before .before .before .pattern .result) (c .before .y .given .0 .0) (omega arith) (c .before .before .before .pattern .ensures) (c .before .y .given .1) (l .inv)
+    reads-on (eachPlace (patternSection (now (a .s)) (a .known))) (a .n) (l .i) (l .x) _ (c .before .before .before .pattern .result) (c .before .y .given .0 .0) (omega arith) (c .before .before .before .pattern .ensures) (c .before .y .given .1) (l .inv)
 
 returns-2 : tie.Need-returns-2 Inv-loop μ-loop
 returns-2 c =
     let a = c .before .before .before .args in
     let l = c .before .loop in
-    run-ends (nextPattern (now (a .s)) (a .known)) (a .n) (l .i) (l .x) _ (omega arith) (l .inv)
+    run-ends (eachPlace (patternSection (now (a .s)) (a .known))) (a .n) (l .i) (l .x) _ (omega arith) (l .inv)
 
 pub patterns-from-spec : {M : Type 1} → statement M
 patterns-from-spec =

@@ -3,12 +3,12 @@
 use mathlib.Core.Path.{_≡_}
 use Prim.Native.Nat.{_-_, _<_}
 use denote.Ref.{now}
-use Rattle.reading.specs.Judging.{climbs}
 use Rattle.reading.specs.Turns.{climb-starts, climb-meets, climb-tops, climb-goes-on, climb-ends}
 use borrow.Author.Needs.{needs}
 use native.Mathlib.Omega.{arith}
 use Rattle.reading.proofs.steps.climbs_to.Statement.{statement}
 use Rattle.reading.proofs.steps.climbs_to.Tie as tie
+use Rattle.reading.specs.StepSection.{climbs}
 
 abbrev Inv-loop : tie.InvT-loop
 Inv-loop s p q n c i₀ at₀ i at = (at < 256) × (climbs s p q (n - i) at ≡ climbs s p q n c)

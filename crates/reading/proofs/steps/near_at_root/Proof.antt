@@ -6,10 +6,10 @@ use denote.Ref.{now}
 use Rattle.base.specs.Standing.{standing, some-starts, some-hits, some-goes-on, some-ends}
 use Rattle.meaning.specs.Sections.{isNearRoot}
 use Rattle.base.specs.Lists.{some}
-use Rattle.reading.specs.Places.{stepAt, afterStep, stepsAt}
 use native.Mathlib.Omega.{arith}
 use Rattle.reading.proofs.steps.near_at_root.Statement.{statement}
 use Rattle.reading.proofs.steps.near_at_root.Tie as tie
+use Rattle.reading.specs.SheetPlaces.{stepAt, afterStep, stepsAt}
 
 abbrev Inv-loop : tie.InvT-loop
 Inv-loop s p k i₀ x₀ i x = (x ≤ p + 3 * i) × (some isNearRoot (standing (stepAt s) afterStep x (k - i)) ≡ some isNearRoot (standing (stepAt s) afterStep p k))

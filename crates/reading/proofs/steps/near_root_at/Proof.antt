@@ -1,10 +1,10 @@
 -- `reading::steps::near_root_at` meets its contract.
 use borrow.Author.Tests.{eq-eqb, ne-eqb}
-use Rattle.reading.specs.Places.{stepAt}
 use Rattle.meaning.specs.Sections.{isNearRoot, nearRoot}
 use borrow.Author.Needs.{needs}
 use Rattle.reading.proofs.steps.near_root_at.Statement.{statement}
 use Rattle.reading.proofs.steps.near_root_at.Tie as tie
+use Rattle.reading.specs.SheetPlaces.{stepAt}
 
 byte-at-requires : tie.Need-byte-at-requires
 byte-at-requires c κs = search needs

@@ -1,10 +1,10 @@
 -- `reading::steps::second_near` meets its contract.
 use borrow.Author.Tests.{eq-eqb, ne-eqb}
 use Rattle.meaning.specs.Sections.{nearRoot}
-use Rattle.reading.specs.Judging.{isSecondNear}
 use borrow.Author.Needs.{needs}
 use Rattle.reading.proofs.steps.second_near.Statement.{statement}
 use Rattle.reading.proofs.steps.second_near.Tie as tie
+use Rattle.reading.specs.StepSection.{isSecondNear}
 
 returns : tie.Need-returns
 unfolding isSecondNear nearRoot

@@ -1,10 +1,10 @@
 -- `reading::steps::step` meets its contract.
 use borrow.Author.Tests.{not-true, not-false}
 use Rattle.base.specs.Choice.{picks}
-use Rattle.reading.specs.Judging.{stepPlace}
 use borrow.Author.Needs.{needs}
 use Rattle.reading.proofs.steps.step.Statement.{statement}
 use Rattle.reading.proofs.steps.step.Tie as tie
+use Rattle.reading.specs.StepSection.{stepPlace}
 
 returns : tie.Need-returns
 unfolding stepPlace

@@ -1,9 +1,9 @@
 -- `reading::steps::step_label` meets its contract.
 use Rattle.base.specs.Choice.{picks}
-use Rattle.reading.specs.Judging.{stepLabel}
 use borrow.Author.Needs.{needs}
 use Rattle.reading.proofs.steps.step_label.Statement.{statement}
 use Rattle.reading.proofs.steps.step_label.Tie as tie
+use Rattle.reading.specs.StepSection.{stepLabel}
 
 returns : tie.Need-returns
 unfolding stepLabel

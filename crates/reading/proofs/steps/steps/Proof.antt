@@ -5,11 +5,11 @@ use Prim.Native.Nat.{_-_}
 use denote.Ref.{now}
 use Rattle.base.specs.Loops.{run, run-starts, run-ends}
 use Rattle.places.specs.Turns.{reads-on, reads-fault}
-use Rattle.reading.specs.Judging.{stepPlace}
 use borrow.Author.Needs.{needs}
 use native.Mathlib.Omega.{arith}
 use Rattle.reading.proofs.steps.steps.Statement.{statement}
 use Rattle.reading.proofs.steps.steps.Tie as tie
+use Rattle.reading.specs.StepSection.{stepPlace}
 
 abbrev Inv-loop : tie.InvT-loop
 Inv-loop s known p n k₀ x₀ k x = run (stepPlace s known p) (n - k) k x ≡ run (stepPlace s known p) n 0 p

@@ -1,7 +1,7 @@
 -- `texts::pattern::put_label` meets its contract. Any, no label, or the bytes at the label's place.
 use mathlib.Core.Path.{sym, ap, _∙_}
 use native.Mathlib.Omega.{arith}
-use Rattle.labels.specs.Places.{textAt}
+use Rattle.labels.specs.LabelPlaces.{textAt}
 use Rattle.texts.specs.Output.{put-is, put-nothing}
 use Rattle.texts.specs.StepTexts.{any-text, no-text, label-text}
 use borrow.Author.Needs.{needs}

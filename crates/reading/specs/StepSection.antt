@@ -1,8 +1,8 @@
--- Steps judged by places are steps as the paper reads them: going up from the step just before meets a number exactly if
--- that number is on the path upwards.
+-- The steps of a pattern: how they are judged by places in their bytes, and that this is how the paper reads them. Going up
+-- from the step just before meets a number exactly if that number is on the path upwards.
 use Prim.Native.Nat.{ℕ, zero, suc, _+_, _*_, _-_, _≤_, _<_}
 use mathlib.Core.Path.{_≡_, refl, sym, ap, _∙_, subst}
-use mathlib.Core.Bool.{Bool, true, false, _||_, false≢true}
+use mathlib.Core.Bool.{Bool, true, false, _&&_, _||_, false≢true}
 use mathlib.Core.List.{List, [], _∷_, _++_}
 use lib.Dec.{eqb, leb, ltb}
 use lib.ListN.{length, getD, drop}
@@ -12,16 +12,49 @@ use borrow.Author.Tests.{eqb-true, eq-eqb, ne-eqb, ltb-true}
 use Rattle.base.specs.Bools.{both-ways}
 use Rattle.base.specs.Choice.{pick}
 use Rattle.base.specs.Lists.{some}
-use Rattle.base.specs.Standing.{placeAfter, standing, standing-last, length-standing, run-leads, run-keeps}
-use Rattle.base.specs.Loops.{run}
+use Rattle.base.specs.Standing.{placeAfter, standing, standing-last, length-standing}
 use Rattle.base.specs.declared.Cur.{Cur}
-use Rattle.base.specs.declared.Cur.the-variants.{At}
-use Rattle.meaning.specs.Reader.{go-on, _>>=_, _>>_, give}
-use Rattle.meaning.specs.Sections.{upFrom, pathAfter, mayHang, aStep, steps}
+use Rattle.base.specs.declared.Cur.the-variants.{At, No}
+use Rattle.meaning.specs.Reader.{give}
+use Rattle.meaning.specs.Sections.{upFrom, pathAfter, mayHang, nearRoot, isNearRoot, aStep, steps}
+use Rattle.meaning.specs.declared.Step.{Step}
 use Rattle.laws.specs.Judged.{path-after}
-use Rattle.reading.specs.Places.{stepAt, afterStep, stepsAt}
-use Rattle.reading.specs.Judging.{climbs, stepLabel, isSecondNear, stepPlace}
-use Rattle.places.specs.Answer.{answer, answer-pick, then-answer, then-give, passed, passed-not, then-byte, then-unless, pick-not, two}
+use Rattle.reading.specs.SheetPlaces.{stepAt, afterStep, stepsAt}
+use Rattle.places.specs.Answer.{answer, answer-pick, passed, passed-not, then-byte, then-unless, pick-not, two}
+use Rattle.places.specs.Section.{Section, standsAs}
+use Rattle.places.specs.InTurn.{inTurn}
+
+-- ---- how steps are judged
+
+-- q is met going up from step c at most n times, where the steps stand from the place p on
+unfoldable pub climbs : List ℕ → ℕ → ℕ → ℕ → ℕ → Bool
+climbs s p q zero c = false
+climbs s p q (suc n) c =
+    let higher = climbs s p q n (getD s (p + 3 * (c - 1)) 0) in
+    pick (eqb c q) true (pick (eqb c 0) false higher)
+
+-- the last byte of a step, its label
+unfoldable pub stepLabel : List ℕ → ℕ → ℕ → Cur
+stepLabel s known x = pick (ltb x (length s)) (pick (leb (getD s x 0) known) (At (x + 1)) (No 8)) (No 1)
+
+-- a second near step with parent 0, after the k steps from the place p on
+unfoldable pub isSecondNear : List ℕ → ℕ → ℕ → ℕ → ℕ → Bool
+isSecondNear s p k parent axis = nearRoot parent axis && some isNearRoot (stepsAt s p k)
+
+-- a step at x, after the k steps from the place p on, with so many labels
+unfoldable pub stepPlace : List ℕ → ℕ → ℕ → ℕ → ℕ → Cur
+stepPlace s known p k x =
+    pick (ltb x (length s))
+    (pick (climbs s p (getD s x 0) (k + 1) k)
+    (pick (ltb (x + 1) (length s))
+    (pick (leb (getD s (x + 1) 0) 1)
+    (pick (isSecondNear s p k (getD s x 0) (getD s (x + 1) 0)) (No 9) (stepLabel s known (x + 2)))
+    (No 7))
+    (No 1))
+    (No 6))
+    (No 1)
+
+-- ---- that is how they are read
 
 -- equal either way round
 eqb-turned : (a b : ℕ) → eqb a b ≡ eqb b a
@@ -93,7 +126,7 @@ module _ (s : List ℕ) (known p : ℕ) where
     pub short : length (pathAfter 1 (0 ∷ []) (stepsAt s p k)) ≤ k + 1
 
   -- before the first step it is the root alone
-  start : PathUp 0
+  pub start : PathUp 0
   unfolding stepsAt standing pathAfter
   start = record { way = root; short = omega arith }
 
@@ -123,11 +156,11 @@ module _ (s : List ℕ) (known p : ℕ) where
 
   -- a step at a place, beside the k steps before it
   pub step-read : (k x : ℕ) → PathUp k → aStep known (stepsAt s p k) (drop x s) ≡ answer s (stepAt s x) (stepPlace s known p k x)
-  unfolding aStep stepPlace stepLabel isSecondNear _>>=_ _>>_ give answer stepAt
+  unfolding aStep stepPlace stepLabel isSecondNear give answer stepAt
   step-read k x w = simp (may-hang k (getD s x 0) w, answer-pick, then-byte, then-unless, pick-not, two)
 
   -- a step that was read: the next place, its parent was met, and it ends within the bytes
-  step-leads : (k x y : ℕ) → stepPlace s known p k x ≡ At y → (y ≡ afterStep x) × (climbs s p (getD s x 0) (k + 1) k ≡ true) × (y ≤ length s)
+  pub step-leads : (k x y : ℕ) → stepPlace s known p k x ≡ At y → (y ≡ afterStep x) × (climbs s p (getD s x 0) (k + 1) k ≡ true) × (y ≤ length s)
   unfolding stepPlace stepLabel afterStep
   step-leads k x y h =
       let a = passed (ltb x (length s)) _ 1 y h in
@@ -141,32 +174,31 @@ module _ (s : List ℕ) (known p : ℕ) where
       let r : x + 2 < length s = ltb-true (x + 2) (length s) (f .0) in
       (omega arith, b .0, omega arith)
 
-  -- n steps from a place on, after the k steps before it
-  steps-from : (n k x : ℕ) → x ≡ p + 3 * k → PathUp k → steps known n (stepsAt s p k) (drop x s) ≡ answer s (stepsAt s x n) (run (stepPlace s known p) n k x)
-  unfolding steps stepsAt standing run _>>=_ give answer
-  steps-from zero k x h w = refl
-  steps-from (suc n) k x h w = rw (step-read k x w) (then-answer s (stepAt s x) (stepsAt s x (suc n)) (stepPlace s known p k x) _ (λ y. run (stepPlace s known p) n (k + 1) y) (λ y e. turn y (step-leads k x y e) (steps-from n (k + 1) y)))
-    where
-      one-more : stepsAt s p k ++ (stepAt s x ∷ []) ≡ stepsAt s p (k + 1)
-      one-more = rw (add-one k) (rw (step-place p k ∙ sym h) at (standing-last (stepAt s) afterStep p k))
+  -- what is told of the k steps before x
+  pub record StepsTold (k x : ℕ) (t : List Step) : Type 0 where
+    pub there : x ≡ p + 3 * k
+    pub before : t ≡ stepsAt s p k
+    pub path : PathUp k
 
-      turn : (y : ℕ) → (y ≡ afterStep x) × (climbs s p (getD s x 0) (k + 1) k ≡ true) × (y ≤ length s)
-          → (y ≡ p + 3 * (k + 1) → PathUp (k + 1) → steps known n (stepsAt s p (k + 1)) (drop y s) ≡ answer s (stepsAt s y n) (run (stepPlace s known p) n (k + 1) y))
-          → go-on (steps known n (stepsAt s p k ++ (stepAt s x ∷ [])) (drop y s)) (λ later. give (stepAt s x ∷ later)) ≡ answer s (stepsAt s x (suc n)) (run (stepPlace s known p) n (k + 1) y)
-      turn y e later =
-          let there : y ≡ p + 3 * (k + 1) = e .0 ∙ after-place p x k h in
-          let rest : Cur = run (stepPlace s known p) n (k + 1) y in
-          rw (one-more, later there (next k x h w (e .1))) (then-give s (stepsAt s y n) rest (λ l. stepAt s x ∷ l) ∙ ap (λ (q : ℕ). answer s (stepAt s x ∷ stepsAt s q n) rest) (e .0))
+  pub steps-told : (k x y : ℕ) (t : List Step) → StepsTold k x t → stepPlace s known p k x ≡ At y → StepsTold (k + 1) y (t ++ (stepAt s x ∷ []))
+  unfolding stepsAt
+  steps-told k x y t h e =
+      let leads = step-leads k x y e in
+      record {
+        there = leads .0 ∙ after-place p x k (h .there);
+        before = rw (h .before, add-one k) (rw (step-place p k ∙ sym (h .there)) at (standing-last (stepAt s) afterStep p k));
+        path = next k x (h .there) (h .path) (leads .1);
+      }
 
-  -- the n steps from the place p on are steps of a pattern
-  pub steps-read : (n : ℕ) → steps known n [] (drop p s) ≡ answer s (stepsAt s p n) (run (stepPlace s known p) n 0 p)
-  unfolding stepsAt standing
-  steps-read n = steps-from n 0 p (omega arith) start
+  pub step-inside : (k x y : ℕ) → x ≤ length s → stepPlace s known p k x ≡ At y → y ≤ length s
+  step-inside k x y l e = step-leads k x y e .2
 
-  -- and end three bytes a step further
-  pub steps-lead : (n y : ℕ) → run (stepPlace s known p) n 0 p ≡ At y → y ≡ p + 3 * n
-  steps-lead n y h = run-leads (stepPlace s known p) afterStep (λ k x z e. step-leads k x z e .0) n 0 p y h ∙ step-place p n
-
-  -- so all of them end within the bytes
-  pub steps-within : (n y : ℕ) → p ≤ length s → run (stepPlace s known p) n 0 p ≡ At y → y ≤ length s
-  steps-within n y g h = run-keeps (stepPlace s known p) (λ z. z ≤ length s) (λ k x z e. step-leads k x z e .2) n 0 p y g h
+  -- the n steps from the place p on
+  unfoldable pub stepsSection : (n : ℕ) → Section s (steps known n []) p
+  unfolding steps stepsAt standing
+  stepsSection n =
+      standsAs (stepsAt s p n) (p + 3 * n) (
+      inTurn s (steps known) (aStep known) (λ t a. t ++ (a ∷ [])) (λ t. refl) (λ m t. refl) (stepAt s) afterStep (stepPlace s known p) StepsTold
+      (λ k x t h. rw (h .before) (step-read k x (h .path))) (λ k x y e. step-leads k x y e .0) step-inside steps-told n p []
+      (record { there = omega arith; before = refl; path = start }))
+      refl (step-place p n)

@@ -1,4 +1,4 @@
--- What follows from a sheet and a document by the place that judging both reached, and the bytes of a label by its number.
+-- The labels of a sheet and a document that were judged, by their numbers.
 use Prim.Native.Nat.{ℕ, zero, suc, _+_, _-_, _≤_, _<_}
 use mathlib.Core.Path.{_≡_, refl, sym, ap, _∙_}
 use mathlib.Core.List.{List, [], _++_}
@@ -8,46 +8,26 @@ use native.Mathlib.Omega.{arith}
 use borrow.Author.Tests.{le-leb, lt-leb}
 use Rattle.base.specs.Choice.{pick}
 use Rattle.base.specs.Standing.{placeAfter, getD-standing}
-use Rattle.base.specs.Loops.{andThen}
 use Rattle.base.specs.declared.Cur.{Cur}
 use Rattle.base.specs.declared.Cur.the-variants.{At, No}
 use Rattle.meaning.specs.Sections.{Sheet, sheet, Document, document}
 use Rattle.meaning.specs.LabelBytes.{labelsOf, isLabel, labelAt}
 use Rattle.meaning.specs.Calls.{judged, labelNumber, labelPart}
-use Rattle.labels.specs.Places.{textAt, afterLabel, textsAt}
-use Rattle.reading.specs.Places.{sheetAt}
-use Rattle.reading.specs.Judging.{sheetPlace}
-use Rattle.places.specs.Answer.{answer}
-use Rattle.reading.specs.SheetRead.{sheet-read, length-texts}
-use Rattle.documents.specs.Judging.{documentPlace, bothPlace, documentAt}
-use Rattle.documents.specs.DocumentRead.{document-read}
+use Rattle.labels.specs.LabelPlaces.{textAt, afterLabel, textsAt}
+use Rattle.reading.specs.SheetPlaces.{sheetAt}
+use Rattle.places.specs.Reached.{was-reached, was-refused}
+use Rattle.documents.specs.DocumentJudged.{both-judged, bothPlace}
+use Rattle.documents.specs.DocumentSection.{documentAt}
+use Rattle.labels.specs.LabelSection.{length-texts}
 
 module _ {B : Type 0} (s d : List ℕ) (refuse : ℕ → B) (next : Sheet → Document → B) where
   -- both were read: what follows is of the sheet and the document that stand there
-  pub both-read : (x : ℕ) → bothPlace s d ≡ At x → judged (sheet s) refuse (λ sh. judged (document sh d) refuse (next sh)) ≡ next (sheetAt s) (documentAt d)
-  unfolding bothPlace andThen answer judged
-  both-read x h = rw (sheet-read s) (first (sheetPlace s) h)
-    where
-      then : (c : Cur) → c ≡ At x → judged (answer d (documentAt d) c) refuse (next (sheetAt s)) ≡ next (sheetAt s) (documentAt d)
-      then (At y) e = refl
-      then (No m) e = let z : _≡_ {A = ℕ} 0 1 = cc in absurd (omega arith)
-
-      first : (c : Cur) → andThen c (λ y. documentPlace s (getD s 0 0) d) ≡ At x → judged (answer s (sheetAt s) c) refuse (λ sh. judged (document sh d) refuse (next sh)) ≡ next (sheetAt s) (documentAt d)
-      first (At y) e = rw (document-read s d) (then (documentPlace s (getD s 0 0) d) e)
-      first (No m) e = let z : _≡_ {A = ℕ} 0 1 = cc in absurd (omega arith)
+  both-read : (x : ℕ) → bothPlace s d ≡ At x → judged (sheet s) refuse (λ sh. judged (document sh d) refuse (next sh)) ≡ next (sheetAt s) (documentAt d)
+  both-read x h = both-judged s d refuse next ∙ was-reached (bothPlace s d) x refuse (next (sheetAt s) (documentAt d)) h
 
   -- one was refused
-  pub both-refused : (n : ℕ) → bothPlace s d ≡ No n → judged (sheet s) refuse (λ sh. judged (document sh d) refuse (next sh)) ≡ refuse n
-  unfolding bothPlace andThen answer judged
-  both-refused n h = rw (sheet-read s) (first (sheetPlace s) h)
-    where
-      then : (c : Cur) → c ≡ No n → judged (answer d (documentAt d) c) refuse (next (sheetAt s)) ≡ refuse n
-      then (At y) e = let z : _≡_ {A = ℕ} 0 1 = cc in absurd (omega arith)
-      then (No m) e = let z : m ≡ n = cc in ap refuse z
-
-      first : (c : Cur) → andThen c (λ y. documentPlace s (getD s 0 0) d) ≡ No n → judged (answer s (sheetAt s) c) refuse (λ sh. judged (document sh d) refuse (next sh)) ≡ refuse n
-      first (At y) e = rw (document-read s d) (then (documentPlace s (getD s 0 0) d) e)
-      first (No m) e = let z : m ≡ n = cc in ap refuse z
+  both-refused : (n : ℕ) → bothPlace s d ≡ No n → judged (sheet s) refuse (λ sh. judged (document sh d) refuse (next sh)) ≡ refuse n
+  both-refused n h = both-judged s d refuse next ∙ was-refused (bothPlace s d) n refuse (next (sheetAt s) (documentAt d)) h
 
 -- ---- the labels of both
 
@@ -98,9 +78,9 @@ module _ (s d : List ℕ) (n : ℕ) where
   counted-from-one ls (suc k) a = let e : suc k - 1 ≡ k = omega arith in rw e
 
   -- otherwise it is one of both, counted from 0
-  reached : (x : ℕ) → bothPlace s d ≡ At x → 1 ≤ n → labelPart s d n ≡ getD (textsAt s 1 (getD s 0 0) ++ textsAt d 1 (getD d 0 0)) (n - 1) []
+  told : (x : ℕ) → bothPlace s d ≡ At x → 1 ≤ n → labelPart s d n ≡ getD (textsAt s 1 (getD s 0 0) ++ textsAt d 1 (getD d 0 0)) (n - 1) []
   unfolding labelPart labelsOf sheetAt documentAt
-  reached x h a =
+  told x h a =
       both-read s d (λ k. []) (λ sh dc. labelAt (labelsOf sh dc) n) x h
       ∙ counted-from-one (textsAt s 1 (getD s 0 0) ++ textsAt d 1 (getD d 0 0)) n a
 
@@ -108,7 +88,7 @@ module _ (s d : List ℕ) (n : ℕ) where
   pub part-of-sheet : (x : ℕ) → bothPlace s d ≡ At x → 1 ≤ n → n ≤ getD s 0 0 → textAt s (placeAfter (afterLabel s) 1 (n - 1)) ≡ labelPart s d n
   unfolding textsAt
   part-of-sheet x h a b =
-      sym (reached x h a
+      sym (told x h a
       ∙ List·getD-append (textsAt s 1 (getD s 0 0)) (textsAt d 1 (getD d 0 0)) [] (n - 1) (omega (arith, length-texts s 1 (getD s 0 0)))
       ∙ getD-standing (textAt s) (afterLabel s) 1 (getD s 0 0) (n - 1) [] (omega arith))
 
@@ -117,7 +97,7 @@ module _ (s d : List ℕ) (n : ℕ) where
   unfolding textsAt
   part-of-document x h a b =
       let past : n - 1 ≡ length (textsAt s 1 (getD s 0 0)) + (n - getD s 0 0 - 1) = omega (arith, length-texts s 1 (getD s 0 0)) in
-      sym (reached x h (omega arith)
+      sym (told x h (omega arith)
       ∙ ap (λ (k : ℕ). getD (textsAt s 1 (getD s 0 0) ++ textsAt d 1 (getD d 0 0)) k []) past
       ∙ getD-append-add (textsAt s 1 (getD s 0 0)) (textsAt d 1 (getD d 0 0)) (n - getD s 0 0 - 1) []
       ∙ getD-standing (textAt d) (afterLabel d) 1 (getD d 0 0) (n - getD s 0 0 - 1) [] (omega arith))
@@ -128,4 +108,4 @@ module _ (s d : List ℕ) (n : ℕ) where
       let both = textsAt s 1 (getD s 0 0) ++ textsAt d 1 (getD d 0 0) in
       let long : length both ≡ getD s 0 0 + getD d 0 0 =
       length-append (textsAt s 1 (getD s 0 0)) (textsAt d 1 (getD d 0 0)) ∙ rw (length-texts s 1 (getD s 0 0), length-texts d 1 (getD d 0 0)) in
-      sym (reached x h (omega arith) ∙ List·getD-eq-default both [] (omega arith))
+      sym (told x h (omega arith) ∙ List·getD-eq-default both [] (omega arith))

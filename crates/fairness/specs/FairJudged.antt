@@ -9,65 +9,65 @@ use Rattle.base.specs.Choice.{pick}
 use Rattle.base.specs.Loops.{andThen}
 use Rattle.base.specs.declared.Cur.{Cur}
 use Rattle.base.specs.declared.Cur.the-variants.{At, No}
-use Rattle.meaning.specs.Reader.{go-on, _>>=_, _>>_, give, unless, numberOf}
+use Rattle.meaning.specs.Numbers.{notFair}
+use Rattle.places.specs.Section.{Section, standsAs, section-number}
+use Rattle.places.specs.Reached.{reached, section-judged, reached-twice, number-after}
+use Rattle.reading.specs.SheetSection.{sheetSection}
+use Rattle.tables.specs.TableSection.{tableSection, tableAt}
+use Rattle.meaning.specs.Reader.{numberOf}
 use Rattle.meaning.specs.Sections.{Sheet, sheet, Entry}
 use Rattle.meaning.specs.Fair.{fair, eachInOne}
 use Rattle.meaning.specs.Calls.{judged, fairTable, tableNumber}
-use Rattle.reading.specs.Places.{sheetAt}
-use Rattle.reading.specs.Judging.{sheetPlace}
+use Rattle.reading.specs.SheetPlaces.{sheetAt}
+use Rattle.reading.specs.SheetSection.{sheetPlace}
 use Rattle.places.specs.Bytes.{numberAt}
-use Rattle.places.specs.Answer.{answer, then-answer, number-of-answer, passed-on}
-use Rattle.reading.specs.Judged.{reached, judged-answer, sheet-judged, reached-twice, sheet-stands}
-use Rattle.reading.specs.SheetRead.{after-sheet}
+use Rattle.places.specs.Answer.{passed-on}
+use Rattle.reading.specs.SheetJudged.{sheet-judged, sheet-stands}
 use Rattle.patterns.specs.declared.Subscriptions.{Subscriptions}
 use Rattle.patterns.specs.Taken.{subscriptionsOf}
 use Rattle.patterns.specs.Subscribed.{SubscriptionsStand, subscriptions-stand}
 use Rattle.tables.specs.declared.Entries.{Entries}
-use Rattle.tables.specs.Judging.{tablePlace, bothPlace, entriesOf}
-use Rattle.tables.specs.TableRead.{table-read}
-use Rattle.tables.specs.Standing.{tableAt, EntriesStand, entries-stand}
+use Rattle.tables.specs.TableSection.{tablePlace, bothPlace, tableEntries}
+use Rattle.tables.specs.TableJudged.{EntriesStand, entries-stand}
 use Rattle.fairness.specs.Each.{isFit, fair-parts}
+use Rattle.places.specs.Fields.{given, unlessThen, sectionThen}
 
 -- whether the table is fair beside the sheet, as they stand
 unfoldable pub fairAt : List ℕ → List ℕ → Bool
 fairAt s t = fair (sheetAt s .patterns) (tableAt t)
 
+-- a table that passes the table check, beside the sheet
+unfoldable pub fairTableSection : (s t : List ℕ) → Section t (fairTable (sheetAt s)) 0
+unfolding fairTable fairAt tableSection
+fairTableSection s t =
+    standsAs (tableAt t) _ (
+    sectionThen _ (tableSection s t) λ y.
+    unlessThen notFair (fairAt s t) (
+    given (tableAt t)))
+    refl refl
+
 -- where the table ends, or the number of its first fault; 12 last
-unfoldable pub fairTablePlace : List ℕ → List ℕ → Cur
-fairTablePlace s t = andThen (tablePlace t (getD s 0 0)) (λ x. pick (fairAt s t) (At x) (No 12))
+abbrev pub fairTablePlace : List ℕ → List ℕ → Cur
+fairTablePlace s t = fairTableSection s t .place
 
 -- the sheet first
 unfoldable pub fairPlace : List ℕ → List ℕ → Cur
 fairPlace s t = andThen (sheetPlace s) (λ x. fairTablePlace s t)
 
--- a table that passes the table check
-fair-table-read : (s t : List ℕ) → fairTable (sheetAt s) t ≡ answer t (tableAt t) (fairTablePlace s t)
-unfolding fairTable fairTablePlace fairAt tableAt _>>=_ _>>_ give unless go-on answer pick
-fair-table-read s t =
-    rw (table-read s t)
-    (then-answer t (tableAt t) (tableAt t) (tablePlace t (getD s 0 0)) (λ es. _>>_ (unless 12 (fair (sheetAt s .patterns) es)) (give es)) (λ x. pick (fairAt s t) (At x) (No 12)) (λ x e. go x (fairAt s t)))
-  where
-    go : (x : ℕ) (b : Bool) → go-on (unless 12 b (drop x t)) (λ u. give (tableAt t)) ≡ answer t (tableAt t) (pick b (At x) (No 12))
-    go x true = refl
-    go x false = refl
-
 module _ {B : Type 0} (s t : List ℕ) (refuse : ℕ → B) where
-  -- a table beside its sheet is answered by its place
-  pub fair-table-judged : (next : List Entry → B) → judged (fairTable (sheetAt s) t) refuse next ≡ reached (fairTablePlace s t) refuse (next (tableAt t))
-  fair-table-judged next = rw (fair-table-read s t) (judged-answer t (tableAt t) (fairTablePlace s t) refuse next)
-
   -- the sheet first, then the table
-  pub fair-judged : (next : Sheet → List Entry → B) → judged (sheet s) refuse (λ sh. judged (fairTable sh t) refuse (next sh)) ≡ reached (fairPlace s t) refuse (next (sheetAt s) (tableAt t))
-  unfolding fairPlace
+  pub fair-judged : (next : Sheet → List Entry → B)
+      → judged (sheet s) refuse (λ sh. judged (fairTable sh t) refuse (next sh)) ≡ reached (fairPlace s t) refuse (next (sheetAt s) (tableAt t))
+  unfolding fairPlace fairTableSection
   fair-judged next =
       sheet-judged s refuse (λ sh. judged (fairTable sh t) refuse (next sh))
-      ∙ ap (reached (sheetPlace s) refuse) (fair-table-judged (next (sheetAt s)))
+      ∙ ap (reached (sheetPlace s) refuse) (section-judged (fairTableSection s t) refuse (next (sheetAt s)))
       ∙ reached-twice (sheetPlace s) (fairTablePlace s t) refuse (next (sheetAt s) (tableAt t))
 
 -- the number of a table
 pub table-number : (s t : List ℕ) → numberAt (fairPlace s t) ≡ tableNumber s t
-unfolding tableNumber fairPlace
-table-number s t = after-sheet s (λ sh. numberOf (fairTable sh t)) (fairTablePlace s t) (ap numberOf (fair-table-read s t) ∙ number-of-answer t (tableAt t) (fairTablePlace s t))
+unfolding tableNumber fairPlace sheetSection
+table-number s t = sym (number-after (sheetSection s) (λ sh. numberOf (fairTable sh t)) (fairTablePlace s t) (section-number (fairTableSection s t)))
 
 -- ---- as it is asked
 
@@ -87,19 +87,19 @@ all-fit s t n r q e h k l =
 
 module _ (s t : List ℕ) where
   -- where both were judged, subscriptions and entries stand
-  pub both-stand : (y : ℕ) (v : Subscriptions) (w : Entries) → bothPlace s t ≡ At y → v ≡ subscriptionsOf s → w ≡ entriesOf t → SubscriptionsStand s v × EntriesStand t w
+  pub both-stand : (y : ℕ) (v : Subscriptions) (w : Entries) → bothPlace s t ≡ At y → v ≡ subscriptionsOf s → w ≡ tableEntries t → SubscriptionsStand s v × EntriesStand t w
   unfolding bothPlace
   both-stand y v w h e f =
       let a = passed-on (sheetPlace s) _ y h in
       let sound = sheet-stands s (a .0) (a .1) in
-      (subscriptions-stand s v sound e, entries-stand s t y w sound (a .2) f)
+      (subscriptions-stand s v sound e, entries-stand s t y (a .2) w f)
 
   -- the bytes of both first, 12 last
   last : fairPlace s t ≡ andThen (bothPlace s t) (λ x. pick (fairAt s t) (At x) (No 12))
-  unfolding fairPlace fairTablePlace bothPlace andThen
+  unfolding fairPlace fairTableSection bothPlace andThen
   last = go (sheetPlace s)
     where
-      go : (c : Cur) → andThen c (λ x. andThen (tablePlace t (getD s 0 0)) (λ y. pick (fairAt s t) (At y) (No 12))) ≡ andThen (andThen c (λ x. tablePlace t (getD s 0 0))) (λ y. pick (fairAt s t) (At y) (No 12))
+      go : (c : Cur) → andThen c (λ x. andThen (tablePlace s t) (λ y. pick (fairAt s t) (At y) (No 12))) ≡ andThen (andThen c (λ x. tablePlace s t)) (λ y. pick (fairAt s t) (At y) (No 12))
       go (At x) = refl
       go (No n) = refl
 
@@ -119,7 +119,7 @@ module _ (s t : List ℕ) where
   place-refused m h = sym (last ∙ rw h)
 
   -- where the table check was passed, subscriptions and entries stand
-  pub fair-stand : (y : ℕ) (v : Subscriptions) (w : Entries) → fairPlace s t ≡ At y → v ≡ subscriptionsOf s → w ≡ entriesOf t → SubscriptionsStand s v × EntriesStand t w
+  pub fair-stand : (y : ℕ) (v : Subscriptions) (w : Entries) → fairPlace s t ≡ At y → v ≡ subscriptionsOf s → w ≡ tableEntries t → SubscriptionsStand s v × EntriesStand t w
   fair-stand y v w h e f =
       let a = passed-on (bothPlace s t) _ y (sym last ∙ h) in
       both-stand (a .0) v w (a .1) e f
