@@ -2,6 +2,8 @@
 use crate::subscribed::numbered;
 use building::build;
 use meaning::Built;
+use meaning::MOST_ENTRIES;
+use meaning::NO_ROOM;
 use members::alone;
 use patterns::Subscriptions;
 use patterns::subscriptions_in;
@@ -13,6 +15,7 @@ use writing::write_table;
 ghost use mathlib.Core.Path.{_≡_};
 ghost use Prim.Native.Nat.{_+_, _<_};
 ghost use mathlib.Core.List.{[], _∷_, _++_};
+ghost use Rattle.meaning.specs.Numbers.{mostEntries};
 ghost use Rattle.meaning.specs.Calls.{withRoom, after, buildAnswer};
 ghost use Rattle.meaning.specs.Building.{entriesFrom};
 ghost use Rattle.shapes.specs.Shapes.{entryOf, tableOf, SoundPattern, SoundTable};
@@ -23,7 +26,7 @@ ghost use Rattle.answers.specs.Says.{buildSays};
 
 // The table with one entry more.
 fn with_entry(t: Table, e: Entry) -> Table
-    requires { ⌜ SoundTable t × (t .count < 64) × SoundPattern (e .pattern) ⌝ }
+    requires { ⌜ SoundTable t × (t .count < mostEntries) × SoundPattern (e .pattern) ⌝ }
     ensures { λ r. ⌜ (tableOf r ≡ tableOf t ++ (entryOf e ∷ [])) × (r .count ≡ t .count + 1) × SoundTable r ⌝ }
 {
     let n = t.count;
@@ -44,7 +47,7 @@ pub fn first_entries(s: &[u8], v: Subscriptions) -> Table
     };
     let mut t = Table {
         count: 0,
-        entries: [empty; 64],
+        entries: [empty; MOST_ENTRIES],
     };
     let mut i = 0;
     while i < v.count {
@@ -75,5 +78,5 @@ pub fn build_first(s: &[u8], limit: u16, out: &mut [u8]) -> Built
             rounds: made.rounds,
         };
     }
-    Built::Refused(10)
+    Built::Refused(NO_ROOM)
 }

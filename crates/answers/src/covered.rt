@@ -2,6 +2,7 @@
 use crate::subscribed::numbered;
 use covering::covers;
 use meaning::Asked;
+use meaning::NOT_THERE;
 use patterns::subscriptions_in;
 ghost use mathlib.Core.Path.{_≡_};
 ghost use Rattle.reading.specs.SheetPlaces.{sheetAt};
@@ -16,10 +17,10 @@ pub fn covers_numbered(s: &[u8], i: u64, j: u64) -> Asked
     let v = subscriptions_in(s);
     let count = v.count as u64;
     if count <= i {
-        return Asked::Refused(11);
+        return Asked::Refused(NOT_THERE);
     }
     if count <= j {
-        return Asked::Refused(11);
+        return Asked::Refused(NOT_THERE);
     }
     let p = numbered(s, v, i as usize);
     let q = numbered(s, v, j as usize);

@@ -1,6 +1,8 @@
 // The merge of two subscriptions, written into a lent output.
 use crate::subscribed::numbered;
 use meaning::Merged;
+use meaning::NO_ROOM;
+use meaning::NOT_THERE;
 use merging::merge;
 use offering::Marked;
 use patterns::subscriptions_in;
@@ -26,7 +28,7 @@ fn write_merge(m: Marked, out: &mut [u8]) -> Merged
             clipped: m.clipped,
         };
     }
-    Merged::Refused(10)
+    Merged::Refused(NO_ROOM)
 }
 
 // Writes the merge of subscription i of a sheet that was judged with subscription j.
@@ -37,10 +39,10 @@ pub fn merge_numbered(s: &[u8], i: u64, j: u64, out: &mut [u8]) -> Merged
     let v = subscriptions_in(s);
     let count = v.count as u64;
     if count <= i {
-        return Merged::Refused(11);
+        return Merged::Refused(NOT_THERE);
     }
     if count <= j {
-        return Merged::Refused(11);
+        return Merged::Refused(NOT_THERE);
     }
     let p = numbered(s, v, i as usize);
     let q = numbered(s, v, j as usize);

@@ -1,4 +1,5 @@
 // Whether one pattern covers another: whether its steps can be laid onto the other's.
+use meaning::MOST_STEPS;
 use meaning::Step;
 use shapes::Pattern;
 ghost use mathlib.Core.Path.{_≡_};
@@ -10,6 +11,9 @@ ghost use Rattle.meaning.specs.Covering.{mayLie, covers};
 ghost use Rattle.shapes.specs.Shapes.{patternOf, stepsIn, SoundPattern};
 ghost use Rattle.covering.specs.Questions.{mayLieBelow, childrenLie, someFits, liesAt};
 ghost use Rattle.covering.specs.Notes.{PairOfSteps, cellOf, noteOf, knownAt, Noted};
+
+// Pairs of steps, one of each of two patterns.
+pub const PAIRS: usize = MOST_STEPS * MOST_STEPS;
 
 // The label is any, or the same.
 fn any_or_same(l: u8, m: u8) -> bool
@@ -43,12 +47,12 @@ fn cell(v: usize, w: usize) -> usize
     requires { ⌜ PairOfSteps v w ⌝ }
     ensures { λ r. ⌜ (r ≡ cellOf v w) × (r < 256) ⌝ }
 {
-    (v - 1) * 16 + (w - 1)
+    (v - 1) * MOST_STEPS + (w - 1)
 }
 
 // What is known of step v of A at step w of B before its children are asked: 1 that it lies there, 2 that it doesn't.
 // Where it may by itself, what is noted of its children decides.
-fn known_at(may: bool, v: usize, w: usize, notes: &[u8; 256]) -> u8
+fn known_at(may: bool, v: usize, w: usize, notes: &[u8; PAIRS]) -> u8
     requires { ⌜ PairOfSteps v w ⌝ }
     ensures { λ r. ⌜ r ≡ knownAt may v w (now (notes .entry)) ⌝ }
 {
@@ -56,7 +60,7 @@ fn known_at(may: bool, v: usize, w: usize, notes: &[u8; 256]) -> u8
 }
 
 // Notes whether the children of v lie below w, and hands the answer on.
-fn note(v: usize, w: usize, lie: bool, notes: &mut [u8; 256]) -> bool
+fn note(v: usize, w: usize, lie: bool, notes: &mut [u8; PAIRS]) -> bool
     requires { ⌜ (length (now notes) ≡ 256) × PairOfSteps v w ⌝ }
     ensures { λ r. ⌜ (r ≡ lie) × (now (notes .exit) ≡ set (now (notes .entry)) (cellOf v w) (noteOf lie)) ⌝ }
 {
@@ -65,7 +69,7 @@ fn note(v: usize, w: usize, lie: bool, notes: &mut [u8; 256]) -> bool
 }
 
 // All children of step v of A find a place below step w of B.
-fn all_lie(a: Pattern, v: usize, b: Pattern, w: usize, notes: &mut [u8; 256]) -> bool
+fn all_lie(a: Pattern, v: usize, b: Pattern, w: usize, notes: &mut [u8; PAIRS]) -> bool
     requires { ⌜ Noted a b (now notes) × (v ≤ a .count) × (w ≤ b .count) ⌝ }
     ensures { λ r. ⌜ (r ≡ childrenLie (stepsIn a) v (stepsIn b) w) × Noted a b (now (notes .exit)) ⌝ }
 {
@@ -83,7 +87,7 @@ fn all_lie(a: Pattern, v: usize, b: Pattern, w: usize, notes: &mut [u8; 256]) ->
 }
 
 // Some place below step w of B fits step k of A. The steps below w stand right after it, up to one whose parent is above w.
-fn some_fits(a: Pattern, k: usize, b: Pattern, w: usize, notes: &mut [u8; 256]) -> bool
+fn some_fits(a: Pattern, k: usize, b: Pattern, w: usize, notes: &mut [u8; PAIRS]) -> bool
     requires { ⌜ Noted a b (now notes) × (1 ≤ k) × (k ≤ a .count) × (w ≤ b .count) ⌝ }
     ensures { λ r. ⌜ (r ≡ someFits (stepsIn a) k (stepsIn b) w) × Noted a b (now (notes .exit)) ⌝ }
 {
@@ -109,7 +113,7 @@ fn some_fits(a: Pattern, k: usize, b: Pattern, w: usize, notes: &mut [u8; 256]) 
 }
 
 // Step v of A can be laid at step w of B: label and children, axes aside.
-pub fn lies_at(a: Pattern, v: usize, b: Pattern, w: usize, notes: &mut [u8; 256]) -> bool
+pub fn lies_at(a: Pattern, v: usize, b: Pattern, w: usize, notes: &mut [u8; PAIRS]) -> bool
     requires { ⌜ Noted a b (now notes) × (1 ≤ v) × (v ≤ a .count) × (1 ≤ w) × (w ≤ b .count) ⌝ }
     ensures { λ r. ⌜ (r ≡ liesAt (stepsIn a) v (stepsIn b) w) × Noted a b (now (notes .exit)) ⌝ }
 {
@@ -126,7 +130,7 @@ pub fn lies_at(a: Pattern, v: usize, b: Pattern, w: usize, notes: &mut [u8; 256]
 }
 
 // A covers B, by notes of earlier questions about the two.
-pub fn covers_noting(a: Pattern, b: Pattern, notes: &mut [u8; 256]) -> bool
+pub fn covers_noting(a: Pattern, b: Pattern, notes: &mut [u8; PAIRS]) -> bool
     requires { ⌜ Noted a b (now notes) ⌝ }
     ensures { λ r. ⌜ (r ≡ covers (patternOf a) (patternOf b)) × Noted a b (now (notes .exit)) ⌝ }
 {
@@ -138,6 +142,6 @@ pub fn covers(a: Pattern, b: Pattern) -> bool
     requires { ⌜ SoundPattern a × SoundPattern b ⌝ }
     ensures { λ r. ⌜ r ≡ covers (patternOf a) (patternOf b) ⌝ }
 {
-    let mut notes = [0; 256];
+    let mut notes = [0; PAIRS];
     covers_noting(a, b, &mut notes)
 }

@@ -4,6 +4,13 @@ use base::Cur;
 use labels::after_labels;
 use labels::labels;
 use labels::text_at;
+use meaning::COUNT_OUTSIDE;
+use meaning::ENDS_EARLY;
+use meaning::LABEL_OUTSIDE;
+use meaning::MOST_LABELS;
+use meaning::MOST_NODES;
+use meaning::NOT_THERE;
+use meaning::PARENT_RULE;
 use places::byte_at;
 use places::end;
 use places::pair_at;
@@ -35,14 +42,14 @@ fn node_label(d: &[u8], known: usize, x: usize) -> Cur
     ensures { λ r. ⌜ r ≡ nodeLabel (now (d .entry)) known x ⌝ }
 {
     if d.len() <= x {
-        return Cur::No(1);
+        return Cur::No(ENDS_EARLY);
     }
     let label = byte_at(d, x);
     if label < 1 {
-        return Cur::No(8);
+        return Cur::No(LABEL_OUTSIDE);
     }
     if known < label {
-        return Cur::No(8);
+        return Cur::No(LABEL_OUTSIDE);
     }
     Cur::At(x + 1)
 }
@@ -53,16 +60,16 @@ fn node(d: &[u8], known: usize, i: usize, x: usize) -> Cur
     ensures { λ r. ⌜ r ≡ nodePlace (now (d .entry)) known i x ⌝ }
 {
     if d.len() <= x {
-        return Cur::No(1);
+        return Cur::No(ENDS_EARLY);
     }
     if d.len() <= x + 1 {
-        return Cur::No(1);
+        return Cur::No(ENDS_EARLY);
     }
     let parent = pair_at(d, x);
     if node_parent(i + 1, parent) {
         return node_label(d, known, x + 2);
     }
-    Cur::No(6)
+    Cur::No(PARENT_RULE)
 }
 
 // The n nodes from the place p on, with so many labels.
@@ -91,17 +98,17 @@ fn nodes(d: &[u8], known: usize, x: usize) -> Cur
     ensures { λ r. ⌜ r ≡ nodesPlace (now (d .entry)) known x ⌝ }
 {
     if d.len() <= x {
-        return Cur::No(1);
+        return Cur::No(ENDS_EARLY);
     }
     if d.len() <= x + 1 {
-        return Cur::No(1);
+        return Cur::No(ENDS_EARLY);
     }
     let n = pair_at(d, x);
     if n < 1 {
-        return Cur::No(5);
+        return Cur::No(COUNT_OUTSIDE);
     }
-    if 1024 < n {
-        return Cur::No(5);
+    if MOST_NODES < n {
+        return Cur::No(COUNT_OUTSIDE);
     }
     nodes_from(d, known, x + 2, n)
 }
@@ -111,12 +118,12 @@ pub fn document(s: &[u8], d: &[u8]) -> Cur
     ensures { λ r. ⌜ r ≡ documentPlace (now (s .entry)) (now (d .entry)) ⌝ }
 {
     if d.len() <= 0 {
-        return Cur::No(1);
+        return Cur::No(ENDS_EARLY);
     }
     let k = byte_at(s, 0);
     let n = byte_at(d, 0);
-    if 255 < k + n {
-        return Cur::No(5);
+    if MOST_LABELS < k + n {
+        return Cur::No(COUNT_OUTSIDE);
     }
     match labels(s, k, d, 1, n) {
         Cur::At(x) => match nodes(d, k + n, x) {
@@ -168,11 +175,11 @@ pub fn label_number(s: &[u8], d: &[u8], n: u64) -> u8
     match both(s, d) {
         Cur::At(x) => {
             if n < 1 {
-                return 11;
+                return NOT_THERE;
             }
             let all = byte_at(s, 0) + byte_at(d, 0);
             if (all as u64) < n {
-                return 11;
+                return NOT_THERE;
             }
             0
         }

@@ -1,6 +1,8 @@
 // The table check: whether a table is fair beside its sheet.
 use base::Cur;
 use covering::covers;
+use meaning::MOST_ENTRIES;
+use meaning::NOT_FAIR;
 use members::is_member;
 use members::members_fit;
 use patterns::Subscriptions;
@@ -15,6 +17,7 @@ use tables::members_at;
 ghost use Prim.Native.Nat.{_≤_, _<_};
 ghost use mathlib.Core.Path.{_≡_};
 ghost use Rattle.base.specs.Lists.{every};
+ghost use Rattle.meaning.specs.Numbers.{mostEntries, mostPatterns};
 ghost use Rattle.meaning.specs.Fair.{entriesOf, oneThatCovers, eachInOne};
 ghost use Rattle.meaning.specs.Calls.{tableNumber};
 ghost use Rattle.shapes.specs.Shapes.{patternOf, entryOf, SoundPattern};
@@ -29,7 +32,7 @@ ghost use Rattle.fairness.specs.FairJudged.{fairAt, fairPlace};
 
 // No entry is without members, and no member is outside the sheet, of n subscriptions.
 fn all_fit(t: &[u8], entries: Entries, n: usize) -> bool
-    requires { ⌜ EntriesStand (now t) entries × (n ≤ 64) ⌝ }
+    requires { ⌜ EntriesStand (now t) entries × (n ≤ mostPatterns) ⌝ }
     ensures { λ r. ⌜ r ≡ every (isFit n) (tableAt (now (t .entry))) ⌝ }
 {
     let mut j = 0;
@@ -43,11 +46,11 @@ fn all_fit(t: &[u8], entries: Entries, n: usize) -> bool
 }
 
 // The members of every entry: each is asked for every subscription.
-fn members_in(t: &[u8], entries: Entries) -> [u64; 64]
-    requires { ⌜ entries .count ≤ 64 ⌝ }
+fn members_in(t: &[u8], entries: Entries) -> [u64; MOST_ENTRIES]
+    requires { ⌜ entries .count ≤ mostEntries ⌝ }
     ensures { λ r. ⌜ MembersStand (now (t .entry)) entries r ⌝ }
 {
-    let mut members = [0; 64];
+    let mut members = [0; MOST_ENTRIES];
     let mut j = 0;
     while j < entries.count {
         members[j] = members_at(t, entries.places[j]);
@@ -59,7 +62,7 @@ fn members_in(t: &[u8], entries: Entries) -> [u64; 64]
 // Weighs the entry at x for subscription i, whose pattern is p: 0 while no entry has it, 1 after one that covers it, 2 after
 // any other.
 fn weigh(t: &[u8], x: usize, members: u64, i: usize, p: Pattern, found: u8) -> u8
-    requires { ⌜ (members ≡ entryTaken (now t) x .members) × SoundPattern (entryTaken (now t) x .pattern) × (i < 64) × SoundPattern p ⌝ }
+    requires { ⌜ (members ≡ entryTaken (now t) x .members) × SoundPattern (entryTaken (now t) x .pattern) × (i < mostPatterns) × SoundPattern p ⌝ }
     ensures { λ r. ⌜ r ≡ weighed i (patternOf p) (entryOf (entryTaken (now (t .entry)) x)) found ⌝ }
 {
     if !is_member(members, i) {
@@ -76,8 +79,8 @@ fn weigh(t: &[u8], x: usize, members: u64, i: usize, p: Pattern, found: u8) -> u
 }
 
 // Is subscription i, whose pattern is p, in exactly one entry, and does that entry cover it?
-fn stands(t: &[u8], entries: Entries, members: [u64; 64], i: usize, p: Pattern) -> bool
-    requires { ⌜ EntriesStand (now t) entries × MembersStand (now t) entries members × (i < 64) × SoundPattern p ⌝ }
+fn stands(t: &[u8], entries: Entries, members: [u64; MOST_ENTRIES], i: usize, p: Pattern) -> bool
+    requires { ⌜ EntriesStand (now t) entries × MembersStand (now t) entries members × (i < mostPatterns) × SoundPattern p ⌝ }
     ensures { λ r. ⌜ r ≡ oneThatCovers (patternOf p) (entriesOf i (tableAt (now (t .entry)))) ⌝ }
 {
     let mut found = 0;
@@ -95,7 +98,7 @@ fn all_stand(
     subscriptions: Subscriptions,
     t: &[u8],
     entries: Entries,
-    members: [u64; 64],
+    members: [u64; MOST_ENTRIES],
 ) -> bool
     requires { ⌜ SubscriptionsStand (now s) subscriptions × EntriesStand (now t) entries × MembersStand (now t) entries members ⌝ }
     ensures { λ r. ⌜ r ≡ eachInOne 0 (sheetAt (now (s .entry)) .patterns) (tableAt (now (t .entry))) ⌝ }
@@ -132,7 +135,7 @@ pub fn fair_table(s: &[u8], t: &[u8]) -> Cur
             if is_fair(s, subscriptions_in(s), t, entries_in(t)) {
                 return Cur::At(x);
             }
-            Cur::No(12)
+            Cur::No(NOT_FAIR)
         }
         Cur::No(m) => Cur::No(m),
     }

@@ -1,5 +1,9 @@
 // A section of labels: the bytes of each, whether it has occurred before, and the judging of all.
 use base::Cur;
+use meaning::ENDS_EARLY;
+use meaning::LABEL_LENGTH;
+use meaning::LABEL_TWICE;
+use meaning::LONGEST_LABEL;
 use places::byte_at;
 ghost use mathlib.Core.Path.{_≡_};
 ghost use Prim.Native.Nat.{_+_, _≤_, _<_};
@@ -73,24 +77,24 @@ fn label(s: &[u8], k: usize, d: &[u8], p: usize, i: usize, x: usize) -> Cur
     ensures { λ r. ⌜ r ≡ labelPlace (now (s .entry)) k (now (d .entry)) p i x ⌝ }
 {
     if d.len() <= x {
-        return Cur::No(1);
+        return Cur::No(ENDS_EARLY);
     }
     let long = byte_at(d, x);
     if long < 1 {
-        return Cur::No(3);
+        return Cur::No(LABEL_LENGTH);
     }
-    if 60 < long {
-        return Cur::No(3);
+    if LONGEST_LABEL < long {
+        return Cur::No(LABEL_LENGTH);
     }
     if d.len() - (x + 1) < long {
-        return Cur::No(1);
+        return Cur::No(ENDS_EARLY);
     }
     let text = text_at(d, x);
     if occurs(text, s, 1, k) {
-        return Cur::No(4);
+        return Cur::No(LABEL_TWICE);
     }
     if occurs(text, d, p, i) {
-        return Cur::No(4);
+        return Cur::No(LABEL_TWICE);
     }
     Cur::At(x + 1 + long)
 }

@@ -1,5 +1,7 @@
 // Whether a document satisfies a pattern, by a table of notes: for each step and node, whether the step holds below the
 // node. The nodes go from the last to the first, and each gives to its parent.
+use meaning::MOST_NODES;
+use meaning::MOST_STEPS;
 use meaning::Step;
 use shapes::Pattern;
 ghost use Prim.Native.Nat.{_+_, _*_, _<_, _≤_, _^_};
@@ -8,6 +10,7 @@ ghost use mathlib.Core.Bool.{true};
 ghost use lib.Dec.{eqb};
 ghost use lib.ListN.{length, getD, set};
 ghost use Rattle.base.specs.Choice.{pick};
+ghost use Rattle.meaning.specs.Numbers.{mostNodes, mostSteps};
 ghost use Rattle.meaning.specs.Satisfying.{parentsOf, satisfies};
 ghost use Rattle.shapes.specs.Shapes.{stepsIn, patternOf, nodesAt, SoundPattern};
 ghost use Rattle.laws.specs.Rising.{Rising};
@@ -16,21 +19,24 @@ ghost use Rattle.matching.specs.Giving.{fits, gives, kidsHold, MayWeigh,
 ghost use Rattle.matching.specs.Going.{Gave};
 ghost use Rattle.matching.specs.Filled.{Filled};
 
+// A cell for each step at each node and at the top; cell 0 is not used.
+const CELLS: usize = MOST_STEPS * (MOST_NODES + 1) + 1;
+
 // Is it noted that step k holds below node t?
-fn holds(cells: &[u8; 16401], t: usize, k: usize) -> bool
+fn holds(cells: &[u8; CELLS], t: usize, k: usize) -> bool
     requires { ⌜ HasCell (now cells) t k ⌝ }
     ensures { λ r. ⌜ r ≡ noted (now (cells .entry)) t k ⌝ }
 {
-    cells[16 * t + k] == 1
+    cells[MOST_STEPS * t + k] == 1
 }
 
 // Notes, where it is so, that step k holds below node t.
-fn note(cells: &mut [u8; 16401], t: usize, k: usize, so: bool)
+fn note(cells: &mut [u8; CELLS], t: usize, k: usize, so: bool)
     requires { ⌜ HasCell (now cells) t k ⌝ }
     ensures { λ r. ⌜ NotedToo (now (cells .entry)) (now (cells .exit)) t k so ⌝ }
 {
     if so {
-        cells[16 * t + k] = 1;
+        cells[MOST_STEPS * t + k] = 1;
     }
 }
 
@@ -58,8 +64,8 @@ fn gives(s: Step, label: u8, kids_hold: bool, below: bool) -> bool
 }
 
 // A step that lacks a child step that holds: noted where that is so.
-fn lack(lacks: &mut [u8; 17], q: usize, holds: bool)
-    requires { ⌜ (length (now lacks) ≡ 17) × (q ≤ 16) ⌝ }
+fn lack(lacks: &mut [u8; MOST_STEPS + 1], q: usize, holds: bool)
+    requires { ⌜ (length (now lacks) ≡ 17) × (q ≤ mostSteps) ⌝ }
     ensures { λ r. ⌜ now (lacks .exit) ≡ pick holds (now (lacks .entry)) (set (now (lacks .entry)) q 1) ⌝ }
 {
     if !holds {
@@ -69,8 +75,8 @@ fn lack(lacks: &mut [u8; 17], q: usize, holds: bool)
 
 // Asks step s, numbered k, at node u with this label, whose parent is node up.
 fn weigh(
-    cells: &mut [u8; 16401],
-    lacks: &mut [u8; 17],
+    cells: &mut [u8; CELLS],
+    lacks: &mut [u8; MOST_STEPS + 1],
     s: Step,
     k: usize,
     u: usize,
@@ -87,11 +93,11 @@ fn weigh(
 }
 
 // The turn of node u with this label, whose parent is node up: the steps go from the last to the first.
-fn give(cells: &mut [u8; 16401], p: Pattern, u: usize, up: usize, label: u8)
-    requires { ⌜ SoundPattern p × Whole (now cells) × (u ≤ 1024) × (up ≤ 1024) ⌝ }
+fn give(cells: &mut [u8; CELLS], p: Pattern, u: usize, up: usize, label: u8)
+    requires { ⌜ SoundPattern p × Whole (now cells) × (u ≤ mostNodes) × (up ≤ mostNodes) ⌝ }
     ensures { λ r. ⌜ Gave (now (cells .entry)) (now (cells .exit)) (stepsIn p) u up label ⌝ }
 {
-    let mut lacks: [u8; 17] = [0; 17];
+    let mut lacks: [u8; MOST_STEPS + 1] = [0; MOST_STEPS + 1];
     let mut k = p.count;
     while k > 0 {
         let s = p.steps[k - 1];
@@ -109,8 +115,8 @@ fn two_bytes(d: &[u8], a: usize) -> usize
 }
 
 // Fills the notes of a document of n nodes, from the last to the first.
-fn fill(cells: &mut [u8; 16401], d: &[u8], at: usize, n: usize, p: Pattern)
-    requires { ⌜ SoundPattern p × (n ≤ 1024) × (at + 3 * n ≤ length (now d)) × Rising (parentsOf (nodesAt (now d) at n)) × Filled (nodesAt (now d) at n) (stepsIn p) n (now cells) ⌝ }
+fn fill(cells: &mut [u8; CELLS], d: &[u8], at: usize, n: usize, p: Pattern)
+    requires { ⌜ SoundPattern p × (n ≤ mostNodes) × (at + 3 * n ≤ length (now d)) × Rising (parentsOf (nodesAt (now d) at n)) × Filled (nodesAt (now d) at n) (stepsIn p) n (now cells) ⌝ }
     ensures { λ r. ⌜ Filled (nodesAt (now (d .entry)) at n) (stepsIn p) 0 (now (cells .exit)) ⌝ }
 {
     let mut u = n;
@@ -122,7 +128,7 @@ fn fill(cells: &mut [u8; 16401], d: &[u8], at: usize, n: usize, p: Pattern)
 }
 
 // Does step s, numbered k, hold below the top, if it is a root step?
-fn at_top(cells: &[u8; 16401], s: Step, k: usize) -> bool
+fn at_top(cells: &[u8; CELLS], s: Step, k: usize) -> bool
     requires { ⌜ HasCell (now cells) 0 k ⌝ }
     ensures { λ r. ⌜ r ≡ pick (eqb (s .parent) 0) (noted (now (cells .entry)) 0 k) true ⌝ }
 {
@@ -133,7 +139,7 @@ fn at_top(cells: &[u8; 16401], s: Step, k: usize) -> bool
 }
 
 // Do all root steps hold below the top?
-fn all_at_top(cells: &[u8; 16401], p: Pattern) -> bool
+fn all_at_top(cells: &[u8; CELLS], p: Pattern) -> bool
     requires { ⌜ SoundPattern p × Whole (now cells) ⌝ }
     ensures { λ r. ⌜ r ≡ kidsHold (noted (now (cells .entry)) 0) 0 1 (stepsIn p) ⌝ }
 {
@@ -149,10 +155,10 @@ fn all_at_top(cells: &[u8; 16401], p: Pattern) -> bool
 
 // Does the document whose n nodes stand in the bytes from a place on satisfy the pattern?
 pub fn matches(d: &[u8], at: usize, n: usize, p: Pattern) -> bool
-    requires { ⌜ SoundPattern p × (n ≤ 1024) × (at + 3 * n ≤ length (now d)) × Rising (parentsOf (nodesAt (now d) at n)) ⌝ }
+    requires { ⌜ SoundPattern p × (n ≤ mostNodes) × (at + 3 * n ≤ length (now d)) × Rising (parentsOf (nodesAt (now d) at n)) ⌝ }
     ensures { λ r. ⌜ r ≡ satisfies (nodesAt (now (d .entry)) at n) (patternOf p) ⌝ }
 {
-    let mut cells: [u8; 16401] = [0; 16401];
+    let mut cells: [u8; CELLS] = [0; CELLS];
     fill(&mut cells, d, at, n, p);
     all_at_top(&cells, p)
 }
@@ -165,7 +171,7 @@ pub struct Tried {
 
 // A try: asks one pattern of one document, and adds one to the count.
 pub fn try_pattern(d: &[u8], at: usize, n: usize, p: Pattern, tried: usize) -> Tried
-    requires { ⌜ SoundPattern p × (n ≤ 1024) × (at + 3 * n ≤ length (now d)) × Rising (parentsOf (nodesAt (now d) at n)) × (tried < 2 ^ 32) ⌝ }
+    requires { ⌜ SoundPattern p × (n ≤ mostNodes) × (at + 3 * n ≤ length (now d)) × Rising (parentsOf (nodesAt (now d) at n)) × (tried < 2 ^ 32) ⌝ }
     ensures { λ r. ⌜ (r .yes ≡ satisfies (nodesAt (now (d .entry)) at n) (patternOf p)) × (r .tried ≡ tried + 1) ⌝ }
 {
     let asked = tried + 1;

@@ -1,5 +1,46 @@
 // What the papers define, and nothing else: there is no function here. The definitions are in specs/, in the order of
-// the paper. Declared here are the step as it is written, and the answers of the hub's calls.
+// the paper. Declared here are the refusals and limits as code names them, the step as it is written, and the answers of
+// the hub's calls.
+
+// The numbers given back; specs/Numbers.antt says when each is given, and code that gives another is not proved.
+pub const DONE: u8 = 0;
+
+pub const ENDS_EARLY: u8 = 1;
+
+pub const BYTES_REMAIN: u8 = 2;
+
+pub const LABEL_LENGTH: u8 = 3;
+
+pub const LABEL_TWICE: u8 = 4;
+
+pub const COUNT_OUTSIDE: u8 = 5;
+
+pub const PARENT_RULE: u8 = 6;
+
+pub const AXIS_UNKNOWN: u8 = 7;
+
+pub const LABEL_OUTSIDE: u8 = 8;
+
+pub const SECOND_NEAR: u8 = 9;
+
+pub const NO_ROOM: u8 = 10;
+
+pub const NOT_THERE: u8 = 11;
+
+pub const NOT_FAIR: u8 = 12;
+
+// The limits.
+pub const LONGEST_LABEL: usize = 60;
+
+pub const MOST_LABELS: usize = 255;
+
+pub const MOST_PATTERNS: usize = 64;
+
+pub const MOST_STEPS: usize = 16;
+
+pub const MOST_NODES: usize = 1024;
+
+pub const MOST_ENTRIES: usize = 64;
 
 // A step as it is written: the number of its parent (0: the pattern's root), its axis (0 near, 1 far), its label (0: any).
 pub struct Step {

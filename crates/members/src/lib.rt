@@ -1,9 +1,11 @@
 // A set of subscriptions as a number: bit i is subscription i. Who is in it, how it is made, its bytes, how many it has.
+use meaning::MOST_PATTERNS;
 ghost use Prim.Native.Nat.{_+_, _^_, _≤_, _<_};
 ghost use mathlib.Core.Path.{_≡_};
 ghost use lib.Bits.{bitOr};
 ghost use lib.ListN.{length};
 ghost use lib.Seq.{sets};
+ghost use Rattle.meaning.specs.Numbers.{mostPatterns};
 ghost use Rattle.meaning.specs.Fair.{isMember};
 ghost use Rattle.meaning.specs.Routing.{shedsIn, lowestShed};
 ghost use Rattle.meaning.specs.Written.{numberBytes};
@@ -12,7 +14,7 @@ ghost use Rattle.members.specs.Marks.{marked};
 
 // Is subscription i a member?
 pub fn is_member(members: u64, i: usize) -> bool
-    requires { ⌜ i < 64 ⌝ }
+    requires { ⌜ i < mostPatterns ⌝ }
     ensures { λ r. ⌜ r ≡ isMember members i ⌝ }
 {
     (members >> i) % 2 == 1
@@ -20,7 +22,7 @@ pub fn is_member(members: u64, i: usize) -> bool
 
 // Subscription i alone.
 pub fn alone(i: usize) -> u64
-    requires { ⌜ i < 64 ⌝ }
+    requires { ⌜ i < mostPatterns ⌝ }
     ensures { λ r. ⌜ r ≡ 2 ^ i ⌝ }
 {
     1 << i
@@ -35,7 +37,7 @@ pub fn union(a: u64, b: u64) -> u64
 
 // The set, with subscription i in it where the answer is yes.
 pub fn mark(set: u64, i: usize, said: bool) -> u64
-    requires { ⌜ i < 64 ⌝ }
+    requires { ⌜ i < mostPatterns ⌝ }
     ensures { λ r. ⌜ r ≡ marked set i said ⌝ }
 {
     if said {
@@ -46,13 +48,13 @@ pub fn mark(set: u64, i: usize, said: bool) -> u64
 
 // Are there members, and all within a sheet of n subscriptions?
 pub fn members_fit(members: u64, n: usize) -> bool
-    requires { ⌜ n ≤ 64 ⌝ }
+    requires { ⌜ n ≤ mostPatterns ⌝ }
     ensures { λ r. ⌜ r ≡ membersFit n members ⌝ }
 {
     if members == 0 {
         return false;
     }
-    if n == 64 {
+    if n == MOST_PATTERNS {
         return true;
     }
     members < alone(n)

@@ -1,11 +1,14 @@
 // The merge of two patterns by value: one of them, or what is built at the pair of their roots.
+use covering::PAIRS;
 use covering::covers_noting;
 use covering::lies_at;
+use meaning::MOST_STEPS;
 use meaning::Step;
 use offering::Marked;
 use offering::branch;
 use offering::made;
 use offering::meet;
+use packing::BODY;
 use packing::pack;
 use packing::unpack;
 use shapes::Pattern;
@@ -13,6 +16,7 @@ use shapes::no_steps;
 ghost use Prim.Native.Nat.{_+_, _≤_};
 ghost use mathlib.Core.Path.{_≡_};
 ghost use mathlib.Core.Bool.{true, _&&_};
+ghost use Rattle.meaning.specs.Numbers.{mostSteps};
 ghost use Rattle.meaning.specs.Merging.{nothing, commonLabel, through, merge};
 ghost use Rattle.shapes.specs.Shapes.{patternOf, stepsIn, SoundPattern};
 ghost use Rattle.laws.specs.Children.{childrenOf};
@@ -65,12 +69,12 @@ fn build_at(
     v: usize,
     w: usize,
     own: usize,
-    memo: &mut [[u8; 50]; 256],
-    there: &mut [u8; 256],
-    back: &mut [u8; 256],
+    memo: &mut [[u8; BODY]; PAIRS],
+    there: &mut [u8; PAIRS],
+    back: &mut [u8; PAIRS],
 ) -> Marked
     requires { ⌜ Known p q (now memo) (now there) (now back) × (v ≤ p .count) × (w ≤ q .count) × (own ≤ 1) ⌝ }
-    ensures { λ r. ⌜ Built own r (through 16 (childrenOf (stepsIn p) v) true own (childrenOf (stepsIn q) w) nothing) × Known p q (now (memo .exit)) (now (there .exit)) (now (back .exit)) ⌝ }
+    ensures { λ r. ⌜ Built own r (through mostSteps (childrenOf (stepsIn p) v) true own (childrenOf (stepsIn q) w) nothing) × Known p q (now (memo .exit)) (now (there .exit)) (now (back .exit)) ⌝ }
 {
     let mut b = Marked {
         pattern: no_steps(),
@@ -98,11 +102,11 @@ fn across(
     w: usize,
     own: usize,
     built: Marked,
-    memo: &mut [[u8; 50]; 256],
-    there: &mut [u8; 256],
-    back: &mut [u8; 256],
+    memo: &mut [[u8; BODY]; PAIRS],
+    there: &mut [u8; PAIRS],
+    back: &mut [u8; PAIRS],
 ) -> Marked
-    requires { ⌜ Known p q (now memo) (now there) (now back) × (1 ≤ v) × (v ≤ p .count) × (w ≤ q .count) × SoundPattern (built .pattern) × (own + built .pattern .count ≤ 16) ⌝ }
+    requires { ⌜ Known p q (now memo) (now there) (now back) × (1 ≤ v) × (v ≤ p .count) × (w ≤ q .count) × SoundPattern (built .pattern) × (own + built .pattern .count ≤ mostSteps) ⌝ }
     ensures { λ r. ⌜ Built own r (acrossOf own direct (stepsIn p) v (childrenOf (stepsIn q) w) (buildingOf built)) × Known p q (now (memo .exit)) (now (there .exit)) (now (back .exit)) ⌝ }
 {
     let mut b = built;
@@ -125,14 +129,14 @@ fn body_at(
     q: Pattern,
     v: usize,
     w: usize,
-    memo: &mut [[u8; 50]; 256],
-    there: &mut [u8; 256],
-    back: &mut [u8; 256],
+    memo: &mut [[u8; BODY]; PAIRS],
+    there: &mut [u8; PAIRS],
+    back: &mut [u8; PAIRS],
 ) -> Marked
     requires { ⌜ Known p q (now memo) (now there) (now back) × (1 ≤ v) × (v ≤ p .count) × (1 ≤ w) × (w ≤ q .count) ⌝ }
     ensures { λ r. ⌜ IsBody r (bodyFor (stepsIn p) (stepsIn q) v w) × Known p q (now (memo .exit)) (now (there .exit)) (now (back .exit)) ⌝ }
 {
-    let cell = (v - 1) * 16 + (w - 1);
+    let cell = (v - 1) * MOST_STEPS + (w - 1);
     let slot = memo[cell];
     if slot[0] != 0 {
         return unpack(slot);
@@ -149,9 +153,9 @@ fn new_body(
     q: Pattern,
     v: usize,
     w: usize,
-    memo: &mut [[u8; 50]; 256],
-    there: &mut [u8; 256],
-    back: &mut [u8; 256],
+    memo: &mut [[u8; BODY]; PAIRS],
+    there: &mut [u8; PAIRS],
+    back: &mut [u8; PAIRS],
 ) -> Marked
     requires { ⌜ Known p q (now memo) (now there) (now back) × (1 ≤ v) × (v ≤ p .count) × (1 ≤ w) × (w ≤ q .count) ⌝ }
     ensures { λ r. ⌜ IsBody r (bodyFor (stepsIn p) (stepsIn q) v w) × Known p q (now (memo .exit)) (now (there .exit)) (now (back .exit)) ⌝ }
@@ -173,21 +177,21 @@ pub fn merge(p: Pattern, q: Pattern) -> Marked
     requires { ⌜ SoundPattern p × SoundPattern q ⌝ }
     ensures { λ r. ⌜ IsMerge r (merge (patternOf p) (patternOf q)) ⌝ }
 {
-    let mut there = [0; 256];
+    let mut there = [0; PAIRS];
     if covers_noting(p, q, &mut there) {
         return Marked {
             pattern: p,
             clipped: false,
         };
     }
-    let mut back = [0; 256];
+    let mut back = [0; PAIRS];
     if covers_noting(q, p, &mut back) {
         return Marked {
             pattern: q,
             clipped: false,
         };
     }
-    let empty = [0; 50];
-    let mut memo = [empty; 256];
+    let empty = [0; BODY];
+    let mut memo = [empty; PAIRS];
     build_at(p, q, 0, 0, 0, &mut memo, &mut there, &mut back)
 }

@@ -1,5 +1,6 @@
 // What is kept at a pair of steps while the merge of two patterns is built, and one candidate offered to it.
 use covering::covers;
+use meaning::MOST_STEPS;
 use meaning::Step;
 use shapes::Pattern;
 use shapes::no_steps;
@@ -9,6 +10,7 @@ ghost use mathlib.Core.Bool.{_||_};
 ghost use mathlib.Core.List.{[], _∷_, _++_};
 ghost use lib.ListN.{length};
 ghost use Rattle.base.specs.Choice.{pick};
+ghost use Rattle.meaning.specs.Numbers.{mostSteps};
 ghost use Rattle.meaning.specs.Forest.{near, far, axisOf, none, step, stepsFrom};
 ghost use Rattle.meaning.specs.Covering.{stepAt};
 ghost use Rattle.meaning.specs.Merging.{offer, meet};
@@ -36,7 +38,7 @@ fn one(axis: u8, label: u8) -> Pattern
             parent: 0,
             axis: axis,
             label: label,
-        }; 16],
+        }; MOST_STEPS],
     }
 }
 
@@ -63,7 +65,7 @@ fn moved(s: Step, v: usize, n: usize, top: u8) -> Step
 
 // The steps below step v of p, put after the steps of r, the children of v hanging on `top`.
 fn copied(r: Pattern, p: Pattern, v: usize, top: u8) -> Pattern
-    requires { ⌜ SoundPattern p × (length (r .steps) ≡ 16) × (v ≤ p .count) × (r .count + (p .count - v) ≤ 16) ⌝ }
+    requires { ⌜ SoundPattern p × (length (r .steps) ≡ mostSteps) × (v ≤ p .count) × (r .count + (p .count - v) ≤ mostSteps) ⌝ }
     ensures { λ t. ⌜ Holds t (stepsIn r ++ stepsFrom top (suc (r .count)) (childrenOf (stepsIn p) v)) ⌝ }
 {
     let n = r.count;
@@ -112,15 +114,15 @@ fn stays(kept: Pattern, c: Pattern) -> Pattern
 // One candidate: skipped if it can be laid on a kept one; otherwise put last, without the kept ones that can be laid on it,
 // or left out where there is no room even so.
 fn offer(b: Marked, c: Pattern, own: usize) -> Marked
-    requires { ⌜ SoundPattern (b .pattern) × (own + b .pattern .count ≤ 16) × IsBranch c ⌝ }
-    ensures { λ r. ⌜ Built own r (offer 16 own (firstBranch (patternOf c)) (buildingOf b)) ⌝ }
+    requires { ⌜ SoundPattern (b .pattern) × (own + b .pattern .count ≤ mostSteps) × IsBranch c ⌝ }
+    ensures { λ r. ⌜ Built own r (offer mostSteps own (firstBranch (patternOf c)) (buildingOf b)) ⌝ }
 {
     let kept = b.pattern;
     if covers(c, kept) {
         return b;
     }
     let stay = stays(kept, c);
-    if own + stay.count + c.count <= 16 {
+    if own + stay.count + c.count <= MOST_STEPS {
         Marked {
             pattern: copied(stay, c, 0, 0),
             clipped: b.clipped,
@@ -149,8 +151,8 @@ fn either(a: bool, b: bool) -> bool
 
 // The candidate of a pair, by its body, is offered.
 pub fn meet(b: Marked, body: Marked, both: bool, own: usize) -> Marked
-    requires { ⌜ SoundPattern (b .pattern) × (own + b .pattern .count ≤ 16) × IsBody body (bodyIn body) ⌝ }
-    ensures { λ r. ⌜ Built own r (meet 16 own both (bodyIn body) (buildingOf b)) ⌝ }
+    requires { ⌜ SoundPattern (b .pattern) × (own + b .pattern .count ≤ mostSteps) × IsBody body (bodyIn body) ⌝ }
+    ensures { λ r. ⌜ Built own r (meet mostSteps own both (bodyIn body) (buildingOf b)) ⌝ }
 {
     let so_far = b.pattern;
     let given = body.pattern;
@@ -168,7 +170,7 @@ pub fn meet(b: Marked, body: Marked, both: bool, own: usize) -> Marked
 
 // The body with a label and the children that were built.
 pub fn made(label: u8, built: Marked) -> Marked
-    requires { ⌜ SoundPattern (built .pattern) × (1 + built .pattern .count ≤ 16) ⌝ }
+    requires { ⌜ SoundPattern (built .pattern) × (1 + built .pattern .count ≤ mostSteps) ⌝ }
     ensures { λ r. ⌜ IsBody r (record { label = label; kids = patternOf (built .pattern); clipped = built .clipped }) ⌝ }
 {
     let kept = built.pattern;

@@ -1,4 +1,5 @@
 // A body of a merge as bytes and back. A memo of bodies is lent through a recursion, and only an array of bytes can be lent.
+use meaning::MOST_STEPS;
 use meaning::Step;
 use offering::Marked;
 use shapes::no_steps;
@@ -9,6 +10,10 @@ ghost use lib.ListN.{getD};
 ghost use Rattle.shapes.specs.Shapes.{SoundPattern};
 ghost use Rattle.shapes.specs.Holding.{Holds};
 ghost use Rattle.packing.specs.Packing.{packed, Written};
+ghost use Rattle.meaning.specs.Numbers.{mostSteps};
+
+// The bytes of a body: its step count, its mark and three bytes a step.
+pub const BODY: usize = 3 * MOST_STEPS + 2;
 
 // A mark as a byte.
 fn mark_number(clipped: bool) -> u8
@@ -18,13 +23,13 @@ fn mark_number(clipped: bool) -> u8
 }
 
 // A body as it is kept in the table: its step count, its mark and three bytes a step.
-pub fn pack(b: Marked) -> [u8; 50]
+pub fn pack(b: Marked) -> [u8; BODY]
     requires { ⌜ SoundPattern (b .pattern) ⌝ }
     ensures { λ r. ⌜ Written (b .pattern) (b .clipped) r (b .pattern .count) ⌝ }
 {
     let p = b.pattern;
     let mark = mark_number(b.clipped);
-    let mut bytes = [0; 50];
+    let mut bytes = [0; BODY];
     bytes[0] = p.count as u8;
     bytes[1] = mark;
     let mut k = 0;
@@ -39,8 +44,8 @@ pub fn pack(b: Marked) -> [u8; 50]
 }
 
 // A body out of the table.
-pub fn unpack(bytes: [u8; 50]) -> Marked
-    requires { ⌜ getD bytes 0 0 ≤ 16 ⌝ }
+pub fn unpack(bytes: [u8; BODY]) -> Marked
+    requires { ⌜ getD bytes 0 0 ≤ mostSteps ⌝ }
     ensures { λ r. ⌜ Holds (r .pattern) (packed bytes) × (r .clipped ≡ eqb (getD bytes 1 0) 1) ⌝ }
 {
     let mut p = no_steps();

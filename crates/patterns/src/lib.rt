@@ -1,5 +1,7 @@
 // Patterns by value out of a sheet or a table, and where the subscriptions of a sheet stand.
 use labels::after_labels;
+use meaning::MOST_PATTERNS;
+use meaning::MOST_STEPS;
 use meaning::Step;
 use places::byte_at;
 use shapes::Pattern;
@@ -9,11 +11,12 @@ ghost use Prim.Native.Nat.{_+_, _*_, _^_, _≤_, _<_};
 ghost use lib.ListN.{length};
 ghost use Rattle.reading.specs.SheetPlaces.{stepAt, stepsAt, afterPattern};
 ghost use Rattle.patterns.specs.Taken.{patternAt, patternPlaces, subscriptionsOf};
+ghost use Rattle.meaning.specs.Numbers.{mostPatterns, mostSteps};
 
 // How many subscriptions a sheet has, and the place of each; behind those, the places go on in the same way.
 pub struct Subscriptions {
     pub count: usize,
-    pub places: [usize; 64],
+    pub places: [usize; MOST_PATTERNS],
 }
 
 // The step at x.
@@ -32,18 +35,18 @@ fn step_at(s: &[u8], x: usize) -> Step
 }
 
 // The sixteen steps from the place p on.
-fn steps_at(s: &[u8], p: usize) -> [Step; 16]
+fn steps_at(s: &[u8], p: usize) -> [Step; MOST_STEPS]
     requires { ⌜ p ≤ length (now s) ⌝ }
-    ensures { λ r. ⌜ r ≡ stepsAt (now (s .entry)) p 16 ⌝ }
+    ensures { λ r. ⌜ r ≡ stepsAt (now (s .entry)) p mostSteps ⌝ }
 {
     let mut steps = [Step {
         parent: 0,
         axis: 0,
         label: 0,
-    }; 16];
+    }; MOST_STEPS];
     let mut i = 0;
     let mut x = p;
-    while i < 16 {
+    while i < MOST_STEPS {
         steps[i] = step_at(s, x);
         x += 3;
         i += 1;
@@ -59,7 +62,7 @@ pub fn pattern_at(s: &[u8], x: usize) -> Pattern
         return no_steps();
     }
     let n = byte_at(s, x);
-    if 16 < n {
+    if MOST_STEPS < n {
         return no_steps();
     }
     if s.len() - (x + 1) < 3 * n {
@@ -80,14 +83,14 @@ pub fn after_pattern(s: &[u8], x: usize) -> usize
 }
 
 // The places of the patterns from the place p on.
-fn pattern_places(s: &[u8], p: usize) -> [usize; 64]
+fn pattern_places(s: &[u8], p: usize) -> [usize; MOST_PATTERNS]
     requires { ⌜ p < 65800 ⌝ }
-    ensures { λ r. ⌜ r ≡ patternPlaces (now (s .entry)) p 64 ⌝ }
+    ensures { λ r. ⌜ r ≡ patternPlaces (now (s .entry)) p mostPatterns ⌝ }
 {
-    let mut places = [0; 64];
+    let mut places = [0; MOST_PATTERNS];
     let mut i = 0;
     let mut x = p;
-    while i < 64 {
+    while i < MOST_PATTERNS {
         places[i] = x;
         x = after_pattern(s, x);
         i += 1;
@@ -102,7 +105,7 @@ pub fn subscriptions_in(s: &[u8]) -> Subscriptions
     let x = after_labels(s, 1, byte_at(s, 0));
     let places = pattern_places(s, x + 1);
     let n = byte_at(s, x);
-    if n <= 64 {
+    if n <= MOST_PATTERNS {
         return Subscriptions { count: n, places };
     }
     Subscriptions { count: 0, places }

@@ -1,5 +1,6 @@
 // What stands at a place in lent bytes: a byte, a number of two bytes, the end.
 use base::Cur;
+use meaning::BYTES_REMAIN;
 ghost use mathlib.Core.Path.{_≡_};
 ghost use Prim.Native.Nat.{_<_};
 ghost use lib.ListN.{getD};
@@ -30,7 +31,7 @@ pub fn end(s: &[u8], x: usize) -> Cur
     ensures { λ r. ⌜ r ≡ endPlace (now (s .entry)) x ⌝ }
 {
     if x < s.len() {
-        return Cur::No(2);
+        return Cur::No(BYTES_REMAIN);
     }
     Cur::At(x)
 }

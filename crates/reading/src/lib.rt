@@ -6,6 +6,7 @@ pub mod patterns; // patterns.rt: a pattern, a section of patterns
 use crate::patterns::patterns;
 use base::Cur;
 use labels::labels;
+use meaning::ENDS_EARLY;
 use places::byte_at;
 use places::end;
 ghost use mathlib.Core.Path.{_≡_};
@@ -17,7 +18,7 @@ pub fn sheet(s: &[u8]) -> Cur
     ensures { λ r. ⌜ r ≡ sheetPlace (now (s .entry)) ⌝ }
 {
     if s.len() <= 0 {
-        return Cur::No(1);
+        return Cur::No(ENDS_EARLY);
     }
     let n = byte_at(s, 0);
     match labels(s, 0, s, 1, n) {

@@ -1,6 +1,10 @@
 // A pattern, and a section of patterns.
 use crate::steps::steps;
 use base::Cur;
+use meaning::COUNT_OUTSIDE;
+use meaning::ENDS_EARLY;
+use meaning::MOST_PATTERNS;
+use meaning::MOST_STEPS;
 use places::byte_at;
 ghost use mathlib.Core.Path.{_≡_};
 ghost use Rattle.base.specs.Loops.{run};
@@ -13,11 +17,11 @@ pub fn pattern(s: &[u8], known: usize, x: usize) -> Cur
     ensures { λ r. ⌜ r ≡ patternPlace (now (s .entry)) known x ⌝ }
 {
     if s.len() <= x {
-        return Cur::No(1);
+        return Cur::No(ENDS_EARLY);
     }
     let n = byte_at(s, x);
-    if 16 < n {
-        return Cur::No(5);
+    if MOST_STEPS < n {
+        return Cur::No(COUNT_OUTSIDE);
     }
     steps(s, known, x + 1, n)
 }
@@ -47,11 +51,11 @@ pub fn patterns(s: &[u8], known: usize, x: usize) -> Cur
     ensures { λ r. ⌜ r ≡ patternsPlace (now (s .entry)) known x ⌝ }
 {
     if s.len() <= x {
-        return Cur::No(1);
+        return Cur::No(ENDS_EARLY);
     }
     let n = byte_at(s, x);
-    if 64 < n {
-        return Cur::No(5);
+    if MOST_PATTERNS < n {
+        return Cur::No(COUNT_OUTSIDE);
     }
     patterns_from(s, known, x + 1, n)
 }

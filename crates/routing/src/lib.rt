@@ -8,6 +8,7 @@ use fairness::fair_table;
 use matching::matches;
 use matching::try_pattern;
 use meaning::Asked;
+use meaning::NOT_THERE;
 use meaning::Routed;
 use meaning::Tabled;
 use members::is_member;
@@ -21,6 +22,7 @@ use tables::entries_in;
 use tables::entry_at;
 ghost use mathlib.Core.Path.{_≡_};
 ghost use Prim.Native.Nat.{_^_, _<_};
+ghost use Rattle.meaning.specs.Numbers.{mostPatterns};
 ghost use Rattle.meaning.specs.Satisfying.{satisfies};
 ghost use Rattle.meaning.specs.Routing.{plainRoute};
 ghost use Rattle.meaning.specs.Calls.{matchesAnswer, plainAnswer, tableAnswer};
@@ -86,7 +88,7 @@ fn ask_numbered(s: &[u8], i: u64, d: &[u8], at: usize, n: usize) -> Asked
         let x = subscriptions.places[i as usize];
         return Asked::Said(ask(s, x, d, at, n));
     }
-    Asked::Refused(11)
+    Asked::Refused(NOT_THERE)
 }
 
 // Does the document satisfy the subscription with this number?
@@ -110,7 +112,7 @@ fn ask_member(
     i: usize,
     route: Route,
 ) -> Route
-    requires { ⌜ (i < 64) × SoundPattern (patternAt (now s) x) × NodesStand (now d) at n × (route .tried < 2 ^ 32) ⌝ }
+    requires { ⌜ (i < mostPatterns) × SoundPattern (patternAt (now s) x) × NodesStand (now d) at n × (route .tried < 2 ^ 32) ⌝ }
     ensures { λ r. ⌜ r ≡ memberTried members i (satisfies (nodesAt (now (d .entry)) at n) (patternOf (patternAt (now (s .entry)) x))) route ⌝ }
 {
     if !is_member(members, i) {

@@ -1,4 +1,6 @@
 // Patterns, entries and tables by value, and what each stands for (specs/Shapes.antt).
+use meaning::MOST_ENTRIES;
+use meaning::MOST_STEPS;
 use meaning::Step;
 ghost use mathlib.Core.Path.{_≡_};
 ghost use Prim.Native.Nat.{_≤_};
@@ -8,7 +10,7 @@ ghost use Rattle.shapes.specs.Shapes.{noSteps, tableOf, SoundTable};
 // A pattern: the first `count` of its steps, in preorder.
 pub struct Pattern {
     pub count: usize,
-    pub steps: [Step; 16],
+    pub steps: [Step; MOST_STEPS],
 }
 
 // An entry: bit i of the members is subscription i.
@@ -20,7 +22,7 @@ pub struct Entry {
 // A table: the first `count` of its entries.
 pub struct Table {
     pub count: usize,
-    pub entries: [Entry; 64],
+    pub entries: [Entry; MOST_ENTRIES],
 }
 
 // The pattern without steps.
@@ -33,7 +35,7 @@ pub fn no_steps() -> Pattern
             parent: 0,
             axis: 0,
             label: 0,
-        }; 16],
+        }; MOST_STEPS],
     }
 }
 

@@ -1,6 +1,9 @@
 // Reading the bytes of a table beside a sheet: entries are judged by places in the lent bytes (specs/TableSection.antt), and
 // what that gives is what a table means. Entries by value from their places.
 use base::Cur;
+use meaning::COUNT_OUTSIDE;
+use meaning::ENDS_EARLY;
+use meaning::MOST_ENTRIES;
 use patterns::after_pattern;
 use patterns::pattern_at;
 use places::byte_at;
@@ -17,11 +20,12 @@ ghost use Rattle.base.specs.Loops.{run};
 ghost use Rattle.places.specs.NumberRead.{numberIn};
 ghost use Rattle.tables.specs.TableSection.{entryPlace, entrySection, tablePlace, bothPlace, entryTaken, entryPlaces, tableEntries};
 ghost use Rattle.places.specs.InTurn.{eachPlace};
+ghost use Rattle.meaning.specs.Numbers.{mostEntries};
 
 // How many entries a table has, and the place of each; behind those, the places go on in the same way.
 pub struct Entries {
     pub count: usize,
-    pub places: [usize; 64],
+    pub places: [usize; MOST_ENTRIES],
 }
 
 // There are n bytes from x on.
@@ -55,7 +59,7 @@ fn entry(t: &[u8], known: usize, x: usize) -> Cur
     if enough(t, x, 8) {
         return pattern(t, known, x + 8);
     }
-    Cur::No(1)
+    Cur::No(ENDS_EARLY)
 }
 
 // The n entries from the place p on, with so many labels.
@@ -83,11 +87,11 @@ fn table(s: &[u8], t: &[u8]) -> Cur
     ensures { λ r. ⌜ r ≡ tablePlace (now (s .entry)) (now (t .entry)) ⌝ }
 {
     if t.len() <= 0 {
-        return Cur::No(1);
+        return Cur::No(ENDS_EARLY);
     }
     let n = byte_at(t, 0);
-    if 64 < n {
-        return Cur::No(5);
+    if MOST_ENTRIES < n {
+        return Cur::No(COUNT_OUTSIDE);
     }
     match entries_from(t, byte_at(s, 0), 1, n) {
         Cur::At(y) => end(t, y),
@@ -123,13 +127,13 @@ pub fn entry_at(t: &[u8], x: usize) -> Entry
 }
 
 // The places of the entries of a table.
-fn entry_places(t: &[u8]) -> [usize; 64]
-    ensures { λ r. ⌜ r ≡ entryPlaces (now (t .entry)) 1 64 ⌝ }
+fn entry_places(t: &[u8]) -> [usize; MOST_ENTRIES]
+    ensures { λ r. ⌜ r ≡ entryPlaces (now (t .entry)) 1 mostEntries ⌝ }
 {
-    let mut places = [0; 64];
+    let mut places = [0; MOST_ENTRIES];
     let mut i = 0;
     let mut x = 1;
-    while i < 64 {
+    while i < MOST_ENTRIES {
         places[i] = x;
         x = after_pattern(t, x + 8);
         i += 1;
@@ -143,7 +147,7 @@ pub fn entries_in(t: &[u8]) -> Entries
 {
     let places = entry_places(t);
     let n = byte_at(t, 0);
-    if n <= 64 {
+    if n <= MOST_ENTRIES {
         return Entries { count: n, places };
     }
     Entries { count: 0, places }
