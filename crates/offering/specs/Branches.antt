@@ -4,7 +4,6 @@ use mathlib.Core.Path.{_≡_, refl, sym, _∙_, ap}
 use mathlib.Core.Bool.{Bool, true, false, not, and-true, or-false, or-assoc}
 use mathlib.Core.List.{List, [], _∷_, _++_, append-assoc}
 use native.Mathlib.Omega.{arith}
-use lib.ListN.{length}
 use Rattle.base.specs.Choice.{pick}
 use Rattle.base.specs.Lists.{some, keep, total}
 use Rattle.base.specs.ListLaws.{some-same}
@@ -86,7 +85,7 @@ pub copied-beside : (r c t : Pattern) → SoundPattern r → Holds t (stepsIn r 
 copied-beside r c t sound h =
     let same : stepsIn r ++ stepsFrom 0 (suc (r .count)) (childrenOf (stepsIn c) 0) ≡ stepsOf (beside (patternOf r) (patternOf c)) =
     rw root-children (steps-after (patternOf r) (patternOf c) (stepsIn r) (r .count) (sound .written) (count-size r sound)) in
-    stands t (beside (patternOf r) (patternOf c)) (record { steps = h .steps ∙ same; number = h .number ∙ ap length same; few = h .few; full = h .full })
+    stands t (beside (patternOf r) (patternOf c)) (rw same at h)
 
 -- ---- the candidate and the kept ones
 

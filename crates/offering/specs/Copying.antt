@@ -1,11 +1,10 @@
 -- The steps below a step of a pattern, copied after other steps: they are the same forest, written there.
 use Prim.Native.Nat.{ℕ, suc, _+_, _-_, _≤_, _<_}
-use mathlib.Core.Path.{_≡_, refl, _∙_, ap}
+use mathlib.Core.Path.{_≡_, refl, _∙_}
 use mathlib.Core.Bool.{true}
 use mathlib.Core.List.{List, [], _∷_, _++_, append-assoc, append-nil}
 use native.Mathlib.Omega.{arith}
 use lib.Dec.{eqb}
-use lib.ListN.{length}
 use borrow.Author.Tests.{eq-eqb, ne-eqb}
 use Rattle.base.specs.Choice.{pick}
 use Rattle.meaning.specs.Forest.{axisOf, Forest, none, step, size, stepsFrom, stepsOf}
@@ -24,7 +23,7 @@ unfolding stepsOf stepsFrom
 one-branch r t axis label kids h one whole =
     let same : stepsIn r ++ stepsFrom 1 (suc (r .count)) kids ≡ stepsOf (step (axisOf axis) label kids none) =
     rw (one .steps, one .number, axis-read axis h, append-nil) in
-    stands t _ (record { steps = whole .steps ∙ same; number = whole .number ∙ ap length same; few = whole .few; full = whole .full })
+    stands t _ (rw same at whole)
 
 -- step s of the block below v, as it stands after n steps, with the children of v below `top`
 unfoldable pub movedStep : ℕ → ℕ → ℕ → Step → Step

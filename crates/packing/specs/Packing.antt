@@ -94,11 +94,7 @@ module _ {bs : List ℕ} {n : ℕ} {p : Pattern} {k : ℕ} (i : Unpacking bs n p
 -- what is read of a body is that body
 pub unpacked : (bs : List ℕ) (body : Body) (m : Marked)
     → Packed bs body → Holds (m .pattern) (packed bs) → m .clipped ≡ eqb (getD bs 1 0) 1 → IsBody m body
-unpacked bs body m h p e =
-    record {
-      stands = stands (m .pattern) _ (record { steps = p .steps ∙ h .steps; number = p .number ∙ ap length (h .steps); few = p .few; full = p .full });
-      mark = e ∙ h .mark;
-    }
+unpacked bs body m h p e = record { stands = stands (m .pattern) _ (rw (h .steps) at p); mark = e ∙ h .mark }
 
 -- ---- writing them
 
