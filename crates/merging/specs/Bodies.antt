@@ -7,7 +7,7 @@ use native.Mathlib.Omega.{arith}
 use lib.ListN.{length, getD, set, replicate, length-set, length-replicate, getD-replicate}
 use Rattle.base.specs.Choice.{pick}
 use Rattle.meaning.specs.Covering.{stepAt}
-use Rattle.meaning.specs.Merging.{joined, Building, nothing, Body, commonLabel, bodyOf, through}
+use Rattle.meaning.specs.Merging.{nothing, Body, commonLabel, bodyOf, through}
 use Rattle.meaning.specs.declared.Step.{Step}
 use Rattle.shapes.specs.Shapes.{patternOf, stepsIn}
 use Rattle.shapes.specs.declared.Pattern.{Pattern}
@@ -45,12 +45,7 @@ module _ (a b : List Step) (v w : ℕ) where
         → (built : Marked) → Built 1 built (through 16 (childrenOf a v) true 1 (childrenOf b w) nothing)
         → _≡_ {A = Body} (record { label = label; kids = patternOf (built .pattern); clipped = built .clipped }) (bodyFor a b v w)
     unfolding bodyFor bodyOf pick liesAt childrenLie buildingOf buildingAt
-    makes not-second label label-is built h =
-        let whole = through 16 (childrenOf a v) true 1 (childrenOf b w) nothing in
-        let kids-are : patternOf (built .pattern) ≡ joined (whole .kept) =
-        sym (joined-branches (patternOf (built .pattern))) ∙ ap (λ (x : Building). joined (x .kept)) (h .is) in
-        let mark-is : built .clipped ≡ whole .clipped = ap (λ (x : Building). x .clipped) (h .is) in
-        rw (sym said ∙ not-first, sym said₂ ∙ not-second, label-is, kids-are, mark-is)
+    makes not-second label label-is built h = rw (sym said ∙ not-first, sym said₂ ∙ not-second, label-is, sym (h .is), joined-branches)
 
 -- ---- the table
 

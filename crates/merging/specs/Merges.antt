@@ -4,7 +4,7 @@ use mathlib.Core.Bool.{Bool, true, false}
 use Rattle.base.specs.Choice.{pick}
 use Rattle.meaning.specs.Forest.{stepsOf}
 use Rattle.meaning.specs.Covering.{covers}
-use Rattle.meaning.specs.Merging.{joined, Building, nothing, through, Merge, mergeWithin, merge}
+use Rattle.meaning.specs.Merging.{nothing, through, Merge, mergeWithin, merge}
 use Rattle.shapes.specs.Shapes.{patternOf, stepsIn, SoundPattern}
 use Rattle.shapes.specs.declared.Pattern.{Pattern}
 use Rattle.shapes.specs.Steps.{root-children}
@@ -26,7 +26,7 @@ module _ (p q : Pattern) (first second : Bool) (said : first ≡ covers (pattern
   unfolding merge
   merges-first sound t =
       let e = merge-first 16 (patternOf p) (patternOf q) (sym said ∙ t) in
-      record { pattern = sym (ap (λ (m : Merge). m .pattern) e); mark = sym (ap (λ (m : Merge). m .clipped) e); sound = sound }
+      record { pattern = rw e; mark = rw e; sound = sound }
 
   module _ (un : first ≡ false) (said₂ : second ≡ covers (patternOf q) (patternOf p)) where
     -- q covers p
@@ -34,24 +34,17 @@ module _ (p q : Pattern) (first second : Bool) (said : first ≡ covers (pattern
     unfolding merge
     merges-second sound t =
         let e = merge-second 16 (patternOf p) (patternOf q) (sym said ∙ un) (sym said₂ ∙ t) in
-        record { pattern = sym (ap (λ (m : Merge). m .pattern) e); mark = sym (ap (λ (m : Merge). m .clipped) e); sound = sound }
+        record { pattern = rw e; mark = rw e; sound = sound }
 
-    -- where neither covers, the merge is built
-    built-merge : second ≡ false → mergeWithin 16 (patternOf p) (patternOf q)
-        ≡ (let whole = through 16 (patternOf p) true 0 (patternOf q) nothing in record { pattern = joined (whole .kept); clipped = whole .clipped })
-    unfolding mergeWithin pick
-    built-merge u = rw (sym said ∙ un, sym said₂ ∙ u)
-
-    -- it is built
+    -- neither covers the other, and it is built
     pub merges-built : second ≡ false → (r : Marked)
         → Built 0 r (through 16 (childrenOf (stepsIn p) 0) true 0 (childrenOf (stepsIn q) 0) nothing) → IsMerge r (merge (patternOf p) (patternOf q))
-    unfolding merge buildingOf buildingAt
+    unfolding merge mergeWithin pick buildingOf buildingAt
     merges-built u r h =
-        let e = built-merge u in
-        let is : buildingOf r ≡ through 16 (patternOf p) true 0 (patternOf q) nothing = rw (root-children p, root-children q) at (h .is) in
+        let is : through 16 (patternOf p) true 0 (patternOf q) nothing ≡ buildingOf r = rw (root-children p, root-children q) at (sym (h .is)) in
         record {
-          pattern = sym (joined-branches (patternOf (r .pattern))) ∙ ap (λ (b : Building). joined (b .kept)) is ∙ sym (ap (λ (m : Merge). m .pattern) e);
-          mark = ap (λ (b : Building). b .clipped) is ∙ sym (ap (λ (m : Merge). m .clipped) e);
+          pattern = rw (sym said ∙ un, sym said₂ ∙ u, is, joined-branches);
+          mark = rw (sym said ∙ un, sym said₂ ∙ u, is);
           sound = h .sound;
         }
 
