@@ -59,7 +59,7 @@ beside-beside none g h = refl
 beside-beside (step a l kids later) g h = ap (step a l kids) (beside-beside later g h)
 
 -- it has the steps of both
-pub size-beside : (f g : Forest) → size (beside f g) ≡ size f + size g
+size-beside : (f g : Forest) → size (beside f g) ≡ size f + size g
 unfolding beside size
 size-beside none g = omega arith
 size-beside (step a l kids later) g = omega (arith, size-beside later g)
@@ -86,6 +86,11 @@ copied-beside r c t sound h =
     let same : stepsIn r ++ stepsFrom 0 (suc (r .count)) (childrenOf (stepsIn c) 0) ≡ stepsOf (beside (patternOf r) (patternOf c)) =
     rw root-children (steps-after (patternOf r) (patternOf c) (stepsIn r) (r .count) (sound .written) (count-size r sound)) in
     stands t (beside (patternOf r) (patternOf c)) (rw same at h)
+
+-- so it has the steps of both
+pub count-beside : {r c t : Pattern} → SoundPattern r → SoundPattern c → Stands t (beside (patternOf r) (patternOf c)) → t .count ≡ r .count + c .count
+count-beside {r} {c} {t} sr sc put =
+    count-size t (put .sound) ∙ ap size (put .pattern) ∙ size-beside (patternOf r) (patternOf c) ∙ cc (count-size r sr, count-size c sc)
 
 -- ---- the candidate and the kept ones
 

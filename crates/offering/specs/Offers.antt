@@ -15,7 +15,8 @@ use Rattle.shapes.specs.declared.Pattern.{Pattern}
 use Rattle.shapes.specs.Steps.{count-size}
 use Rattle.shapes.specs.Holding.{Stands}
 use Rattle.offering.specs.declared.Marked.{Marked}
-use Rattle.offering.specs.Branches.{branchesOf, branches-size, beside, branches-beside, size-beside, skipped, staying, stay-kept, firstBranch, buildingAt}
+use Rattle.offering.specs.Branches.{branchesOf, branches-size, beside, branches-beside, count-beside}
+use Rattle.offering.specs.Branches.{skipped, staying, stay-kept, firstBranch, buildingAt}
 
 -- what is being built: the kept candidates joined, and the mark
 unfoldable pub buildingOf : Marked → Building
@@ -95,9 +96,7 @@ module _ (own : ℕ) (b : Marked) (c : Pattern) (sound : SoundPattern (b .patter
     unfolding buildingOf IsBranch
     puts-it u room t put =
         let g = alone (firstBranch (patternOf c)) in
-        let two : t .count ≡ stay .count + c .count =
-        count-size t (put .sound) ∙ ap size (put .pattern) ∙ size-beside (patternOf stay) (patternOf c)
-        ∙ cc (count-size stay (stood .sound), count-size c (branch .0)) in
+        let two = count-beside (stood .sound) (branch .0) put in
         let same : patternOf t ≡ beside (staying g (patternOf (b .pattern))) g =
         put .pattern ∙ ap (λ (h : Forest). beside h (patternOf c)) (stood .pattern)
         ∙ ap (λ (h : Forest). beside (staying h (patternOf (b .pattern))) h) (branch .1) in

@@ -19,7 +19,7 @@ use Rattle.shapes.specs.Holding.{Stands}
 use Rattle.laws.specs.Bridge.{length-stepsFrom, axis-written, axis-low}
 use Rattle.laws.specs.Outside.{read-back, outside-written}
 use Rattle.laws.specs.Children.{childrenFrom, childrenOf}
-use Rattle.offering.specs.Branches.{beside, beside-none, beside-beside, size-beside, staying}
+use Rattle.offering.specs.Branches.{beside, beside-none, beside-beside, count-beside, staying}
 
 -- the branch that begins at place k of the steps, by its step's number k + 1
 unfoldable pub branchAt : Pattern → ℕ → Forest
@@ -154,13 +154,10 @@ module _ {p : Pattern} {c : Forest} {k : ℕ} {r : Pattern} (left : Left p c k r
       -- it can't be, and is put last
       pub left-remains : {laid : Bool} → laid ≡ covers (patternOf b) c → laid ≡ false
           → (t : Pattern) → Stands t (beside (patternOf r) (patternOf b)) → Left p c (k + b .count) t
-      unfolding size
       left-remains e un t put =
           let o = next-turn in
           let not-laid : covers (branchAt p k) c ≡ false = rw (is .pattern) at (sym e ∙ un) in
-          let two : t .count ≡ r .count + b .count =
-          count-size t (put .sound) ∙ ap size (put .pattern) ∙ size-beside (patternOf r) (patternOf b)
-          ∙ cc (count-size r (left .sound), count-size b (is .sound)) in
+          let two = count-beside (left .sound) (is .sound) put in
           let last : beside (patternOf r) (beside (branchAt p k) (staying c (o .later))) ≡ staying c (patternOf p) =
           rw (o .first, remains c p k (o .later) not-laid) at (left .whole) in
           record {
