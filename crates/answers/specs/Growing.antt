@@ -10,7 +10,7 @@ use lib.Seq.{take-suc, take-suc-set, take-all, length-take-le}
 use Rattle.meaning.specs.Forest.{Forest, none}
 use Rattle.meaning.specs.Sections
 use Rattle.meaning.specs.Building.{entriesFrom}
-use Rattle.shapes.specs.Shapes.{patternOf, SoundPattern, entryOf, entriesIn, tableOf, SoundTable}
+use Rattle.shapes.specs.Shapes.{patternOf, WellFormed, entryOf, entriesIn, tableOf, WellFormedTable}
 use Rattle.shapes.specs.declared.Entry.{Entry}
 use Rattle.shapes.specs.declared.Table.{Table}
 
@@ -20,7 +20,7 @@ last-gives [] x (List·Memᴰ·head e) = inl e
 last-gives (z ∷ zs) x (List·Memᴰ·head e) = inr (List·Memᴰ·head e)
 last-gives (z ∷ zs) x (List·Memᴰ·tail m) = ⊎-elim inl (λ k. inr (List·Memᴰ·tail k)) (last-gives zs x m)
 
-module _ (t : Table) (sound : SoundTable t) (e : Entry) (room : t .count < 64) where
+module _ (t : Table) (sound : WellFormedTable t) (e : Entry) (room : t .count < 64) where
   -- the table with it
   abbrev pub grown : Table
   grown = record { count = t .count + 1; entries = set (t .entries) (t .count) e }
@@ -36,10 +36,10 @@ module _ (t : Table) (sound : SoundTable t) (e : Entry) (room : t .count < 64) w
   grown-table = ap (map entryOf) grown-entries ∙ map-append entryOf (entriesIn t) (e ∷ [])
 
   -- they are well formed
-  pub grown-sound : SoundPattern (e .pattern) → SoundTable grown
+  pub grown-sound : WellFormed (e .pattern) → WellFormedTable grown
   grown-sound sp = record { few = omega arith; full = length-set (t .entries) (t .count) e ∙ sound .full; patterns = patterns }
     where
-      patterns : (f : Entry) → List·Memᴰ f (entriesIn grown) → SoundPattern (f .pattern)
+      patterns : (f : Entry) → List·Memᴰ f (entriesIn grown) → WellFormed (f .pattern)
       patterns f m = ⊎-elim (λ q. rw q sp) (λ k. sound .patterns f k) (last-gives (entriesIn t) e (rw grown-entries at m))
 
 -- one subscription more has one entry more
@@ -57,19 +57,19 @@ module _ (ps : List Forest) where
     pub within : i ≤ length ps
     pub counted : t .count ≡ i
     pub are : tableOf t ≡ entriesFrom 0 (take i ps)
-    pub sound : SoundTable t
+    pub sound : WellFormedTable t
 
   -- without any
   pub first-none : (t : Table) → t .count ≡ 0 → length (t .entries) ≡ 64 → FirstOnes 0 t
   unfolding tableOf entriesIn entriesFrom
   first-none t e full = record { within = omega arith; counted = e; are = rw e; sound = record { few = omega arith; full = full; patterns = none-there } }
     where
-      none-there : (f : Entry) → List·Memᴰ f (entriesIn t) → SoundPattern (f .pattern)
+      none-there : (f : Entry) → List·Memᴰ f (entriesIn t) → WellFormed (f .pattern)
       none-there f m = absurd (List·Memᴰ·not-nil (rw e at m))
 
   -- and one more
   pub first-more : (i : ℕ) (t u : Table) (e : Entry) → i < length ps → FirstOnes i t
-      → tableOf u ≡ tableOf t ++ (entryOf e ∷ []) → u .count ≡ t .count + 1 → SoundTable u → e .members ≡ 2 ^ i → patternOf (e .pattern) ≡ getD ps i none → FirstOnes (i + 1) u
+      → tableOf u ≡ tableOf t ++ (entryOf e ∷ []) → u .count ≡ t .count + 1 → WellFormedTable u → e .members ≡ 2 ^ i → patternOf (e .pattern) ≡ getD ps i none → FirstOnes (i + 1) u
   unfolding entryOf
   first-more i t u e h z grew counted sound one is =
       let long : length (take i ps) ≡ i = length-take-le i ps (omega arith) in

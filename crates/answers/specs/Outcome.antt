@@ -24,7 +24,7 @@ use Rattle.merging.specs.Merges.{IsMerge}
 use Rattle.offering.specs.declared.Marked.{Marked}
 use Rattle.building.specs.Counting.{buildFrom, build-from}
 use Rattle.building.specs.declared.Made.{Made}
-use Rattle.writing.specs.Output.{writtenOver, after-writing}
+use Rattle.writing.specs.OutputAfter.{writtenOver, after-writing}
 use Rattle.answers.specs.Says.{bothThere, markedSays, mergeSays, tableSays, buildSays}
 
 -- an answer and an output that a call which writes w gives

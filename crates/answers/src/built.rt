@@ -5,11 +5,11 @@ use meaning::Built;
 use meaning::MOST_ENTRIES;
 use meaning::NO_ROOM;
 use members::alone;
-use patterns::Subscriptions;
-use patterns::subscriptions_in;
 use shapes::Entry;
 use shapes::Table;
 use shapes::no_steps;
+use subscriptions::Subscriptions;
+use subscriptions::subscriptions_in;
 use writing::table_length;
 use writing::write_table;
 ghost use mathlib.Core.Path.{_≡_};
@@ -18,16 +18,16 @@ ghost use mathlib.Core.List.{[], _∷_, _++_};
 ghost use Rattle.meaning.specs.Numbers.{mostEntries};
 ghost use Rattle.meaning.specs.Calls.{withRoom, after, buildAnswer};
 ghost use Rattle.meaning.specs.Building.{entriesFrom};
-ghost use Rattle.shapes.specs.Shapes.{entryOf, tableOf, SoundPattern, SoundTable};
+ghost use Rattle.shapes.specs.Shapes.{entryOf, tableOf, WellFormed, WellFormedTable};
 ghost use Rattle.reading.specs.SheetPlaces.{sheetAt};
 ghost use Rattle.reading.specs.SheetJudged.{SheetStands};
-ghost use Rattle.patterns.specs.Subscribed.{SubscriptionsStand};
+ghost use Rattle.subscriptions.specs.Subscribed.{SubscriptionsStand};
 ghost use Rattle.answers.specs.Says.{buildSays};
 
 // The table with one entry more.
 fn with_entry(t: Table, e: Entry) -> Table
-    requires { ⌜ SoundTable t × (t .count < mostEntries) × SoundPattern (e .pattern) ⌝ }
-    ensures { λ r. ⌜ (tableOf r ≡ tableOf t ++ (entryOf e ∷ [])) × (r .count ≡ t .count + 1) × SoundTable r ⌝ }
+    requires { ⌜ WellFormedTable t × (t .count < mostEntries) × WellFormed (e .pattern) ⌝ }
+    ensures { λ r. ⌜ (tableOf r ≡ tableOf t ++ (entryOf e ∷ [])) × (r .count ≡ t .count + 1) × WellFormedTable r ⌝ }
 {
     let n = t.count;
     let mut u = t;
@@ -39,7 +39,7 @@ fn with_entry(t: Table, e: Entry) -> Table
 // One entry for each subscription.
 pub fn first_entries(s: &[u8], v: Subscriptions) -> Table
     requires { ⌜ SubscriptionsStand (now s) v ⌝ }
-    ensures { λ r. ⌜ (tableOf r ≡ entriesFrom 0 (sheetAt (now (s .entry)) .patterns)) × SoundTable r ⌝ }
+    ensures { λ r. ⌜ (tableOf r ≡ entriesFrom 0 (sheetAt (now (s .entry)) .patterns)) × WellFormedTable r ⌝ }
 {
     let empty = Entry {
         members: 0,

@@ -3,7 +3,7 @@ use crate::subscribed::numbered;
 use covering::covers;
 use meaning::Asked;
 use meaning::NOT_THERE;
-use patterns::subscriptions_in;
+use subscriptions::subscriptions_in;
 ghost use mathlib.Core.Path.{_≡_};
 ghost use Rattle.reading.specs.SheetPlaces.{sheetAt};
 ghost use Rattle.reading.specs.SheetJudged.{SheetStands};

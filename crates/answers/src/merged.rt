@@ -5,20 +5,20 @@ use meaning::NO_ROOM;
 use meaning::NOT_THERE;
 use merging::merge;
 use offering::Marked;
-use patterns::subscriptions_in;
+use subscriptions::subscriptions_in;
 use writing::pattern_length;
 use writing::write_pattern;
 ghost use mathlib.Core.Path.{_≡_};
 ghost use Rattle.meaning.specs.Calls.{withRoom, after, mergeAnswer};
 ghost use Rattle.meaning.specs.Merging.{merge};
-ghost use Rattle.shapes.specs.Shapes.{patternOf, SoundPattern};
+ghost use Rattle.shapes.specs.Shapes.{patternOf, WellFormed};
 ghost use Rattle.reading.specs.SheetPlaces.{sheetAt};
 ghost use Rattle.reading.specs.SheetJudged.{SheetStands};
 ghost use Rattle.answers.specs.Says.{mergeSays, markedSays};
 
 // Writes what a merge gave.
 fn write_merge(m: Marked, out: &mut [u8]) -> Merged
-    requires { ⌜ SoundPattern (m .pattern) ⌝ }
+    requires { ⌜ WellFormed (m .pattern) ⌝ }
     ensures { λ r. ⌜ (r ≡ mergeAnswer (withRoom (now (out .entry)) (markedSays (patternOf (m .pattern)) (m .clipped)))) × (now (out .exit) ≡ after (now (out .entry)) (withRoom (now (out .entry)) (markedSays (patternOf (m .pattern)) (m .clipped)))) ⌝ }
 {
     let p = m.pattern;

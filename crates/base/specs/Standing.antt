@@ -121,15 +121,15 @@ module _ (next : ℕ → ℕ) (n i x whole : ℕ) where
 
 -- ---- a loop that fills a list: its first i are what stands, and x is where the next one does
 module _ {A : Type 0} (here : ℕ → A) (next : ℕ → ℕ) (p : ℕ) where
-  pub record Filled (xs : List A) (i x : ℕ) : Type 0 where
+  pub record FilledUpTo (xs : List A) (i x : ℕ) : Type 0 where
     pub so-far : take i xs ≡ standing here next p i
     pub there : x ≡ placeAfter next p i
 
-  pub fill-starts : (xs : List A) → Filled xs 0 p
+  pub fill-starts : (xs : List A) → FilledUpTo xs 0 p
   unfolding standing placeAfter
   fill-starts xs = record { so-far = refl; there = refl }
 
-  pub fill-goes-on : (xs : List A) (i x y : ℕ) (v : A) → i < length xs → v ≡ here x → y ≡ next x → Filled xs i x → Filled (set xs i v) (i + 1) y
+  pub fill-goes-on : (xs : List A) (i x y : ℕ) (v : A) → i < length xs → v ≡ here x → y ≡ next x → FilledUpTo xs i x → FilledUpTo (set xs i v) (i + 1) y
   fill-goes-on xs i x y v h e f w =
       record {
         so-far = rw (add-one i) (take-suc-set xs i v h ∙ more ∙ standing-last here next p i);
@@ -139,5 +139,5 @@ module _ {A : Type 0} (here : ℕ → A) (next : ℕ → ℕ) (p : ℕ) where
       more : take i xs ++ (v ∷ []) ≡ standing here next p i ++ (here (placeAfter next p i) ∷ [])
       more = rw (w .so-far, e, w .there)
 
-  pub fill-ends : (xs : List A) (n i x : ℕ) → length xs ≡ n → i ≡ n → Filled xs i x → xs ≡ standing here next p n
+  pub fill-ends : (xs : List A) (n i x : ℕ) → length xs ≡ n → i ≡ n → FilledUpTo xs i x → xs ≡ standing here next p n
   fill-ends xs n i x h e w = sym (take-all n xs (omega arith)) ∙ rw (← e) (w .so-far)

@@ -38,20 +38,20 @@ module _ {A B : Type 0} (f : A → List B) where
 
 -- What is left to store: stored from the place that was reached, it gives the whole; it ends where the whole does, and
 -- there is room for it.
-pub record Left {A : Type 0} (whole : List A) (end : ℕ) (out : List A) (at : ℕ) (left : List A) : Type 0 where
+pub record LeftToStore {A : Type 0} (whole : List A) (end : ℕ) (out : List A) (at : ℕ) (left : List A) : Type 0 where
   pub gives : sets out at left ≡ whole
   pub ends : at + length left ≡ end
   pub room : end ≤ length out
 
 module _ {A : Type 0} {end at : ℕ} {out : List A} where
   -- at first all of it is left
-  pub left-first : (bs : List A) (next : ℕ) → next ≡ at → next + length bs ≡ end → end ≤ length out → Left (sets out at bs) end out next bs
+  pub left-first : (bs : List A) (next : ℕ) → next ≡ at → next + length bs ≡ end → end ≤ length out → LeftToStore (sets out at bs) end out next bs
   left-first bs next e l h = record { gives = ap (λ (k : ℕ). sets out k bs) e; ends = l; room = h }
 
 module _ {A : Type 0} {whole : List A} {end at : ℕ} {out left : List A} where
   -- one part of it is stored
-  pub left-goes-on : Left whole end out at left → (part others : List A) → left ≡ part ++ others
-      → (after : List A) (next : ℕ) → after ≡ sets out at part → next ≡ at + length part → Left whole end after next others
+  pub left-goes-on : LeftToStore whole end out at left → (part others : List A) → left ≡ part ++ others
+      → (after : List A) (next : ℕ) → after ≡ sets out at part → next ≡ at + length part → LeftToStore whole end after next others
   left-goes-on h part others e after next stored l =
       record {
         gives = (λ i. sets (stored i) (l i) others) ∙ sym (sets-append out at part others) ∙ ap (sets out at) (sym e) ∙ h .gives;
@@ -60,31 +60,31 @@ module _ {A : Type 0} {whole : List A} {end at : ℕ} {out left : List A} where
       }
 
   -- a part has room
-  pub left-room : Left whole end out at left → (part others : List A) → left ≡ part ++ others → at + length part ≤ length out
+  pub left-room : LeftToStore whole end out at left → (part others : List A) → left ≡ part ++ others → at + length part ≤ length out
   left-room h part others e = omega (arith, h .ends, h .room, ap length e, length-append part others)
 
   -- nothing is left
-  pub left-none : Left whole end out at left → left ≡ [] → (at ≡ end) × (out ≡ whole)
+  pub left-none : LeftToStore whole end out at left → left ≡ [] → (at ≡ end) × (out ≡ whole)
   left-none h e = (omega (arith, h .ends, ap length e), ap (sets out at) (sym e) ∙ h .gives)
 
   -- the list is as long as the whole
-  pub left-same : Left whole end out at left → length out ≡ length whole
+  pub left-same : LeftToStore whole end out at left → length out ≡ length whole
   left-same h = sym (length-sets out at left) ∙ ap length (h .gives)
 
 -- ---- a loop that stores the parts of the first n elements, one in each turn: at turn k those from k on are left
-pub record Turn {A B : Type 0} (f : A → List B) (n : ℕ) (xs : List A) (whole : List B) (end : ℕ) (out : List B) (at k : ℕ) : Type 0 where
+pub record StoringTurn {A B : Type 0} (f : A → List B) (n : ℕ) (xs : List A) (whole : List B) (end : ℕ) (out : List B) (at k : ℕ) : Type 0 where
   pub fits : n ≤ length xs
   pub within : k ≤ n
-  pub left : Left whole end out at (partsFrom f n k xs)
+  pub left : LeftToStore whole end out at (partsFrom f n k xs)
 
-module _ {A B : Type 0} {f : A → List B} {n k : ℕ} {xs : List A} {whole : List B} {end at : ℕ} {out : List B} (turn : Turn f n xs whole end out at k) where
+module _ {A B : Type 0} {f : A → List B} {n k : ℕ} {xs : List A} {whole : List B} {end at : ℕ} {out : List B} (turn : StoringTurn f n xs whole end out at k) where
   -- there is room for the part
   pub turn-room : (d : A) → k < n → at + length (f (getD xs k d)) ≤ length out
   turn-room d h = left-room (turn .left) (f (getD xs k d)) (partsFrom f n (k + 1) xs) (parts-go-on f n k xs (turn .fits) d h)
 
   -- and the others are left behind it
   pub turn-goes-on : (d : A) → k < n → (after : List B) (next : ℕ) → after ≡ sets out at (f (getD xs k d)) → next ≡ at + length (f (getD xs k d))
-      → Turn f n xs whole end after next (k + 1)
+      → StoringTurn f n xs whole end after next (k + 1)
   turn-goes-on d h after next stored l =
       record {
         fits = turn .fits;

@@ -7,8 +7,8 @@ use Rattle.meaning.specs.Forest.{Forest}
 use Rattle.meaning.specs.Merging.{merge}
 use Rattle.meaning.specs.Building.{pair, best, bestPair, joinAt, cutLargest, mergeOrCut}
 use Rattle.laws.specs.Chosen.{Right, bestPair-right}
-use Rattle.shapes.specs.Shapes.{patternOf, entryOf, tableOf, SoundTable}
-use Rattle.shapes.specs.Tables.{noEntry, length-table, entry-at}
+use Rattle.shapes.specs.Shapes.{patternOf, entryOf, tableOf, WellFormedTable}
+use Rattle.shapes.specs.TableValues.{noEntryValue, length-table, entry-at}
 use Rattle.shapes.specs.declared.Table.{Table}
 use Rattle.building.specs.declared.rounds.Best.{Best}
 use Rattle.building.specs.Finding.{bestIs, found-some, found-none}
@@ -19,7 +19,7 @@ pub change-cut : (t : Table) (b : Best) → bestIs b ≡ bestPair (tableOf t) �
 unfolding mergeOrCut
 change-cut t b e z = rw (← e, found-none b z) refl
 
-module _ (t : Table) (b : Best) (s : SoundTable t) (e : bestIs b ≡ bestPair (tableOf t)) (h : b .saved ≡ 0 → ⊥) where
+module _ (t : Table) (b : Best) (s : WellFormedTable t) (e : bestIs b ≡ bestPair (tableOf t)) (h : b .saved ≡ 0 → ⊥) where
   -- the pair found saves something
   some : 0 < b .saved
   some = omega arith
@@ -37,7 +37,7 @@ module _ (t : Table) (b : Best) (s : SoundTable t) (e : bestIs b ≡ bestPair (t
 
   -- and the definition merges it
   pub change-merge : (m : Forest)
-      → m ≡ merge (patternOf (getD (t .entries) (b .i) noEntry .pattern)) (patternOf (getD (t .entries) (b .j) noEntry .pattern)) .pattern
+      → m ≡ merge (patternOf (getD (t .entries) (b .i) noEntryValue .pattern)) (patternOf (getD (t .entries) (b .j) noEntryValue .pattern)) .pattern
       → joinAt m (pair (b .i) (b .j)) (tableOf t) ≡ mergeOrCut (bestPair (tableOf t)) (tableOf t)
   unfolding mergeOrCut entryOf pair
-  change-merge m q = rw (found, entry-at t s (b .i) noEntry (found-there .0), entry-at t s (b .j) noEntry (found-there .1), q) refl
+  change-merge m q = rw (found, entry-at t s (b .i) noEntryValue (found-there .0), entry-at t s (b .j) noEntryValue (found-there .1), q) refl

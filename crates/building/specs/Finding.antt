@@ -11,8 +11,8 @@ use Rattle.base.specs.Lists.{numbersFrom}
 use Rattle.base.specs.Numbering.{numbers-split, numbers-end}
 use Rattle.meaning.specs.Building.{Pair, pair, entrySteps, noPair, best, better, bestOf, saves}
 use Rattle.meaning.specs.Building
-use Rattle.shapes.specs.Shapes.{patternOf, entryOf, tableOf, SoundTable}
-use Rattle.shapes.specs.Tables.{noEntry, entry-at}
+use Rattle.shapes.specs.Shapes.{patternOf, entryOf, tableOf, WellFormedTable}
+use Rattle.shapes.specs.TableValues.{noEntryValue, entry-at}
 use Rattle.shapes.specs.declared.Table.{Table}
 use Rattle.building.specs.declared.rounds.Best.{Best}
 use Rattle.building.specs.Saving.{savedBy}
@@ -64,18 +64,18 @@ pub record InRow (t : Table) (i : ℕ) (found : Best) (j : ℕ) (b : Best) : Typ
   pub rest : bestOf (tableOf t) (rowFrom t i j) (bestIs b) ≡ bestOf (tableOf t) (rowFrom t i (i + 1)) (bestIs found)
 
 -- what a pair of entries saves
-saves-at : (t : Table) (i j : ℕ) → SoundTable t → i < t .count → j < t .count
-    → saves (tableOf t) (pair i j) ≡ savedBy (patternOf (getD (t .entries) i noEntry .pattern)) (patternOf (getD (t .entries) j noEntry .pattern))
+saves-at : (t : Table) (i j : ℕ) → WellFormedTable t → i < t .count → j < t .count
+    → saves (tableOf t) (pair i j) ≡ savedBy (patternOf (getD (t .entries) i noEntryValue .pattern)) (patternOf (getD (t .entries) j noEntryValue .pattern))
 unfolding saves savedBy entrySteps pair entryOf
-saves-at t i j s hi hj = rw (entry-at t s i noEntry hi, entry-at t s j noEntry hj)
+saves-at t i j s hi hj = rw (entry-at t s i noEntryValue hi, entry-at t s j noEntryValue hj)
 
 -- before the first pair of the row
 pub row-starts : (t : Table) (i : ℕ) (found : Best) → i < t .count → InRow t i found (i + 1) found
 row-starts t i found h = record { there = h; reached = omega arith; rest = refl }
 
 module _ {t : Table} {i : ℕ} {found : Best} {j : ℕ} {b : Best} (z : InRow t i found j b) where
-  module _ {n : ℕ} (s : SoundTable t) (h : j < t .count)
-      (e : n ≡ savedBy (patternOf (getD (t .entries) i noEntry .pattern)) (patternOf (getD (t .entries) j noEntry .pattern))) where
+  module _ {n : ℕ} (s : WellFormedTable t) (h : j < t .count)
+      (e : n ≡ savedBy (patternOf (getD (t .entries) i noEntryValue .pattern)) (patternOf (getD (t .entries) j noEntryValue .pattern))) where
     -- with one pair asked
     here : bestOf (tableOf t) (rowFrom t i (j + 1)) (better n (pair i j) (bestIs b)) ≡ bestOf (tableOf t) (rowFrom t i (i + 1)) (bestIs found)
     unfolding bestOf

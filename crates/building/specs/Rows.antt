@@ -12,8 +12,8 @@ use Rattle.base.specs.Numbering.{keep-append, numbers-split, numbers-end}
 use Rattle.meaning.specs.Sections.{Entry}
 use Rattle.meaning.specs.Building.{Pair, pair, pairsOf, pairsBelow, bestOf, bestPair, ascends}
 use Rattle.meaning.specs.Building
-use Rattle.shapes.specs.Shapes.{tableOf, SoundTable}
-use Rattle.shapes.specs.Tables.{length-table}
+use Rattle.shapes.specs.Shapes.{tableOf, WellFormedTable}
+use Rattle.shapes.specs.TableValues.{length-table}
 use Rattle.shapes.specs.declared.Table.{Table}
 use Rattle.building.specs.declared.rounds.Best.{Best}
 use Rattle.building.specs.Finding.{bestIs, rowFrom}
@@ -72,7 +72,7 @@ pub record InRows (t : Table) (i : ℕ) (b : Best) : Type 0 where
   pub rest : bestOf (tableOf t) (rowsFrom t i) (bestIs b) ≡ bestPair (tableOf t)
 
 -- before the first row
-pub rows-start : (t : Table) → SoundTable t → InRows t 0 (record { saved = 0; i = 0; j = 0 })
+pub rows-start : (t : Table) → WellFormedTable t → InRows t 0 (record { saved = 0; i = 0; j = 0 })
 unfolding bestPair pairsBelow bestIs pick
 rows-start t s =
     let all : t .count - 0 ≡ t .count = omega arith in

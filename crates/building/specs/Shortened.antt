@@ -8,17 +8,17 @@ use Rattle.meaning.specs.Forest.{size, forest, childrenIn, stepsOf}
 use Rattle.meaning.specs.Building.{cut}
 use Rattle.laws.specs.Bridge.{forest-stepsOf}
 use Rattle.laws.specs.Cutting.{size-cut, stepsOf-cut}
-use Rattle.shapes.specs.Shapes.{stepsIn, patternOf, SoundPattern}
+use Rattle.shapes.specs.Shapes.{stepsIn, patternOf, WellFormed}
 use Rattle.shapes.specs.Steps.{count-size}
 use Rattle.shapes.specs.declared.Pattern.{Pattern}
 
 -- its steps but the last
-abbrev pub shorter : Pattern → Pattern
-shorter p = record { count = p .count - 1; steps = p .steps }
+abbrev pub withoutLast : Pattern → Pattern
+withoutLast p = record { count = p .count - 1; steps = p .steps }
 
-module _ (p : Pattern) (s : SoundPattern p) (h : 0 < p .count) where
+module _ (p : Pattern) (s : WellFormed p) (h : 0 < p .count) where
   -- they are those of the cut
-  steps-shorter : stepsOf (cut (patternOf p)) ≡ stepsIn (shorter p)
+  steps-shorter : stepsOf (cut (patternOf p)) ≡ stepsIn (withoutLast p)
   unfolding stepsIn
   steps-shorter =
       let n : size (cut (patternOf p)) ≡ p .count - 1 = omega (arith, count-size p s, size-cut (patternOf p) (omega (arith, count-size p s))) in
@@ -28,12 +28,12 @@ module _ (p : Pattern) (s : SoundPattern p) (h : 0 < p .count) where
       ∙ take-take (p .count - 1) (p .count) (p .steps) (omega arith)
 
   -- so it is the cut
-  pub cut-shorter : patternOf (shorter p) ≡ cut (patternOf p)
+  pub cut-shorter : patternOf (withoutLast p) ≡ cut (patternOf p)
   unfolding patternOf
   cut-shorter = ap forest (sym steps-shorter) ∙ forest-stepsOf (cut (patternOf p))
 
   -- and it is well formed
-  pub shorter-sound : SoundPattern (shorter p)
+  pub shorter-sound : WellFormed (withoutLast p)
   shorter-sound = record { few = omega (arith, s .few); full = s .full; written = ap stepsOf cut-shorter ∙ steps-shorter }
 
 -- where there is no step, none is lost

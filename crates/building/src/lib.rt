@@ -8,7 +8,7 @@ use shapes::steps_together;
 ghost use mathlib.Core.Path.{_≡_};
 ghost use Prim.Native.Nat.{_+_, _≤_, _<_};
 ghost use Rattle.meaning.specs.Building.{stepsTogether, settle, round};
-ghost use Rattle.shapes.specs.Shapes.{tableOf, SoundTable};
+ghost use Rattle.shapes.specs.Shapes.{tableOf, WellFormedTable};
 ghost use Rattle.building.specs.Counting.{buildFrom};
 
 // A table and the number of rounds that made it.
@@ -19,8 +19,8 @@ pub struct Made {
 
 // One round more, and it is counted.
 fn one_more(m: Made) -> Made
-    requires { ⌜ SoundTable (m .table) × (m .rounds < 1024) ⌝ }
-    ensures { λ r. ⌜ (tableOf (r .table) ≡ round (tableOf (m .table))) × (r .rounds ≡ m .rounds + 1) × SoundTable (r .table) ⌝ }
+    requires { ⌜ WellFormedTable (m .table) × (m .rounds < 1024) ⌝ }
+    ensures { λ r. ⌜ (tableOf (r .table) ≡ round (tableOf (m .table))) × (r .rounds ≡ m .rounds + 1) × WellFormedTable (r .table) ⌝ }
 {
     let t = m.table;
     let next = round(t);
@@ -32,8 +32,8 @@ fn one_more(m: Made) -> Made
 
 // The table for a limit, from the first entries on, and the number of rounds.
 pub fn build(limit: u16, first: Table) -> Made
-    requires { ⌜ SoundTable first ⌝ }
-    ensures { λ r. ⌜ (tableOf (r .table) ≡ buildFrom limit (tableOf first) .entries) × (r .rounds ≡ buildFrom limit (tableOf first) .rounds) × (r .rounds ≤ stepsTogether (settle (tableOf first))) × SoundTable (r .table) ⌝ }
+    requires { ⌜ WellFormedTable first ⌝ }
+    ensures { λ r. ⌜ (tableOf (r .table) ≡ buildFrom limit (tableOf first) .entries) × (r .rounds ≡ buildFrom limit (tableOf first) .rounds) × (r .rounds ≤ stepsTogether (settle (tableOf first))) × WellFormedTable (r .table) ⌝ }
 {
     let most = limit as usize;
     let settled = settle(first);

@@ -9,7 +9,7 @@ ghost use Prim.Native.Nat.{_+_, _<_};
 ghost use Rattle.base.specs.Lists.{numbersFrom};
 ghost use Rattle.meaning.specs.Merging.{merge};
 ghost use Rattle.meaning.specs.Building.{bestOf, bestPair, cut, largest, cutLargest, mergeOrCut, round};
-ghost use Rattle.shapes.specs.Shapes.{patternOf, SoundPattern, tableOf, SoundTable};
+ghost use Rattle.shapes.specs.Shapes.{patternOf, WellFormed, tableOf, WellFormedTable};
 ghost use Rattle.building.specs.Saving.{savedBy};
 ghost use Rattle.building.specs.Finding.{bestIs, rowFrom};
 
@@ -22,7 +22,7 @@ pub struct Best {
 
 // The steps that the merge of two patterns has fewer than both together.
 fn saves(p: Pattern, q: Pattern) -> usize
-    requires { ⌜ SoundPattern p × SoundPattern q ⌝ }
+    requires { ⌜ WellFormed p × WellFormed q ⌝ }
     ensures { λ r. ⌜ r ≡ savedBy (patternOf p) (patternOf q) ⌝ }
 {
     let tried = merge(p, q);
@@ -36,7 +36,7 @@ fn saves(p: Pattern, q: Pattern) -> usize
 
 // The best of what was found and of the pairs (i, j) with j after i.
 fn best_in_row(t: Table, i: usize, found: Best) -> Best
-    requires { ⌜ SoundTable t × (i < t .count) ⌝ }
+    requires { ⌜ WellFormedTable t × (i < t .count) ⌝ }
     ensures { λ r. ⌜ bestIs r ≡ bestOf (tableOf t) (rowFrom t i (i + 1)) (bestIs found) ⌝ }
 {
     let e = t.entries[i];
@@ -60,7 +60,7 @@ fn best_in_row(t: Table, i: usize, found: Best) -> Best
 
 // The first of the pairs i < j that saves most.
 fn best_pair(t: Table) -> Best
-    requires { ⌜ SoundTable t ⌝ }
+    requires { ⌜ WellFormedTable t ⌝ }
     ensures { λ r. ⌜ bestIs r ≡ bestPair (tableOf t) ⌝ }
 {
     let mut best = Best {
@@ -78,8 +78,8 @@ fn best_pair(t: Table) -> Best
 
 // The pattern without its last step.
 fn cut(p: Pattern) -> Pattern
-    requires { ⌜ SoundPattern p ⌝ }
-    ensures { λ r. ⌜ (patternOf r ≡ cut (patternOf p)) × SoundPattern r ⌝ }
+    requires { ⌜ WellFormed p ⌝ }
+    ensures { λ r. ⌜ (patternOf r ≡ cut (patternOf p)) × WellFormed r ⌝ }
 {
     let mut q = p;
     if 0 < p.count {
@@ -90,7 +90,7 @@ fn cut(p: Pattern) -> Pattern
 
 // The entry with most steps, the first on ties.
 fn largest(t: Table) -> usize
-    requires { ⌜ SoundTable t × (0 < t .count) ⌝ }
+    requires { ⌜ WellFormedTable t × (0 < t .count) ⌝ }
     ensures { λ r. ⌜ (r ≡ largest (tableOf t) (numbersFrom 0 (t .count)) 0) × (r < t .count) ⌝ }
 {
     let mut i = 0;
@@ -110,8 +110,8 @@ fn largest(t: Table) -> usize
 
 // The entry with most steps loses its last step.
 fn cut_largest(t: Table) -> Table
-    requires { ⌜ SoundTable t ⌝ }
-    ensures { λ r. ⌜ (tableOf r ≡ cutLargest (tableOf t)) × SoundTable r ⌝ }
+    requires { ⌜ WellFormedTable t ⌝ }
+    ensures { λ r. ⌜ (tableOf r ≡ cutLargest (tableOf t)) × WellFormedTable r ⌝ }
 {
     if t.count == 0 {
         return t;
@@ -127,8 +127,8 @@ fn cut_largest(t: Table) -> Table
 
 // The merge of the pair that saves most, with both sets of members, stands at i, and j is removed; or the cut.
 fn merge_or_cut(t: Table) -> Table
-    requires { ⌜ SoundTable t ⌝ }
-    ensures { λ r. ⌜ (tableOf r ≡ mergeOrCut (bestPair (tableOf t)) (tableOf t)) × SoundTable r ⌝ }
+    requires { ⌜ WellFormedTable t ⌝ }
+    ensures { λ r. ⌜ (tableOf r ≡ mergeOrCut (bestPair (tableOf t)) (tableOf t)) × WellFormedTable r ⌝ }
 {
     let best = best_pair(t);
     if best.saved == 0 {
@@ -144,8 +144,8 @@ fn merge_or_cut(t: Table) -> Table
 
 // A round, settling included.
 pub fn round(t: Table) -> Table
-    requires { ⌜ SoundTable t ⌝ }
-    ensures { λ r. ⌜ (tableOf r ≡ round (tableOf t)) × SoundTable r ⌝ }
+    requires { ⌜ WellFormedTable t ⌝ }
+    ensures { λ r. ⌜ (tableOf r ≡ round (tableOf t)) × WellFormedTable r ⌝ }
 {
     let changed = merge_or_cut(t);
     let settled = settle(changed);

@@ -1,6 +1,6 @@
 pub mod OverBlock
-pub mod Places
+pub mod PlaceSearch
 pub mod Tests
 pub mod Questions
-pub mod Notes
-pub mod Turns
+pub mod PairNotes
+pub mod LayingLoops

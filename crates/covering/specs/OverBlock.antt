@@ -10,10 +10,10 @@ use borrow.Author.Tests.{lt-ltb, le-ltb}
 use Rattle.base.specs.Choice.{pick}
 use Rattle.meaning.specs.Forest.{Forest, none, step, size, childrenIn, stepsFrom}
 use Rattle.meaning.specs.declared.Step.{Step}
-use Rattle.laws.specs.Outside.{Outside, outside-later, afterwards, outside-afterwards, written, steps-split, read-back}
+use Rattle.laws.specs.Outside.{Outside, outside-later, afterwards, outside-afterwards, writtenStep, steps-split, read-back}
 use Rattle.laws.specs.Blocks.{Ends}
 use Rattle.laws.specs.Children.{childrenFrom, childrenOf}
-use Rattle.shapes.specs.Shapes.{stepsIn, SoundPattern}
+use Rattle.shapes.specs.Shapes.{stepsIn, WellFormed}
 use Rattle.shapes.specs.Steps.{stepIn, steps-from, steps-end, block-in}
 use Rattle.shapes.specs.declared.Pattern.{Pattern}
 
@@ -27,7 +27,7 @@ overSteps visit end w k (s ∷ ss) =
 unfoldable pub overForest : {R : Type 0} → (Step → Forest → R → R) → ℕ → ℕ → Forest → R → R
 overForest visit p k none r = r
 overForest visit p k (step a m kids later) r =
-    visit (written p a m) kids (overForest visit k (suc k) kids (overForest visit p (suc k + size kids) later r))
+    visit (writtenStep p a m) kids (overForest visit k (suc k) kids (overForest visit p (suc k + size kids) later r))
 
 -- from place u of the steps on
 unfoldable pub overFrom : {R : Type 0} → (Step → Forest → R → R) → R → List Step → ℕ → ℕ → R
@@ -43,7 +43,7 @@ module _ {R : Type 0} (visit : Step → Forest → R → R) (end : R) (w : ℕ) 
   -- the steps of a forest are visited as the forest is
   over-written : (p k : ℕ) (f : Forest) (after : List Step) → w ≤ p → p < k → Outside p (k + size f) after
       → overSteps visit end w k (stepsFrom p k f ++ after) ≡ overForest visit p k f (overSteps visit end w (k + size f) after)
-  unfolding overSteps overForest pick size stepsFrom afterwards written
+  unfolding overSteps overForest pick size stepsFrom afterwards writtenStep
   over-written p k none after l h o = ap (λ (n : ℕ). overSteps visit end w n after) (omega arith)
   over-written p k (step a m kids later) after l h o =
       let o′ = outside-later p k a m kids later after o in
@@ -55,7 +55,7 @@ module _ {R : Type 0} (visit : Step → Forest → R → R) (end : R) (w : ℕ) 
       ap (overSteps visit end w k) (steps-split p k a m kids later after) ∙ rw (le-ltb p w l, below, inside, beside, n1)
 
   -- ---- one law for each way through a loop over the steps of a pattern
-  module _ (p : Pattern) (sound : SoundPattern p) where
+  module _ (p : Pattern) (sound : WellFormed p) where
     -- it starts right after w
     pub over-starts : w ≤ p .count → overFrom visit end (stepsIn p) w w ≡ overForest visit w (suc w) (childrenOf (stepsIn p) w) end
     unfolding overFrom childrenOf childrenFrom

@@ -7,7 +7,7 @@ use Rattle.meaning.specs.Satisfying.{anyOrSame}
 use Rattle.meaning.specs.Covering.{stepAt, mayLie, finds, fitsAt, lays}
 use Rattle.meaning.specs.declared.Step.{Step}
 use Rattle.laws.specs.Children.{childrenOf}
-use Rattle.covering.specs.Places.{inReach}
+use Rattle.covering.specs.PlaceSearch.{inReach}
 
 -- all children of step v of A find a place below step w of B
 unfoldable pub childrenLie : List Step → ℕ → List Step → ℕ → Bool

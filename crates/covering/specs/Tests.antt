@@ -9,7 +9,7 @@ use native.Mathlib.Omega.{arith}
 use Rattle.meaning.specs.Forest.{axisOf, isNear}
 use Rattle.meaning.specs.Satisfying.{anyOrSame}
 use Rattle.meaning.specs.Covering.{mayLie}
-use Rattle.covering.specs.Places.{inReach}
+use Rattle.covering.specs.PlaceSearch.{inReach}
 
 -- a near step doesn't lie on a far one
 pub near-on-far : (x l y m : ℕ) → x ≡ 0 → not (eqb y 0) ≡ true → false ≡ mayLie (axisOf x) l (axisOf y) m

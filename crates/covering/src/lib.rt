@@ -8,9 +8,9 @@ ghost use lib.ListN.{length, set};
 ghost use Rattle.meaning.specs.Forest.{axisOf};
 ghost use Rattle.meaning.specs.Satisfying.{anyOrSame};
 ghost use Rattle.meaning.specs.Covering.{mayLie, covers};
-ghost use Rattle.shapes.specs.Shapes.{patternOf, stepsIn, SoundPattern};
+ghost use Rattle.shapes.specs.Shapes.{patternOf, stepsIn, WellFormed};
 ghost use Rattle.covering.specs.Questions.{mayLieBelow, childrenLie, someFits, liesAt};
-ghost use Rattle.covering.specs.Notes.{PairOfSteps, cellOf, noteOf, knownAt, Noted};
+ghost use Rattle.covering.specs.PairNotes.{PairOfSteps, cellOf, noteOf, knownAt, Noted};
 
 // Pairs of steps, one of each of two patterns.
 pub const PAIRS: usize = MOST_STEPS * MOST_STEPS;
@@ -139,7 +139,7 @@ pub fn covers_noting(a: Pattern, b: Pattern, notes: &mut [u8; PAIRS]) -> bool
 
 // A covers B.
 pub fn covers(a: Pattern, b: Pattern) -> bool
-    requires { ⌜ SoundPattern a × SoundPattern b ⌝ }
+    requires { ⌜ WellFormed a × WellFormed b ⌝ }
     ensures { λ r. ⌜ r ≡ covers (patternOf a) (patternOf b) ⌝ }
 {
     let mut notes = [0; PAIRS];

@@ -17,7 +17,7 @@ use Rattle.meaning.specs.Satisfying.{parentsOf}
 use Rattle.meaning.specs.Calls.{judged, documentNumber}
 use Rattle.shapes.specs.Shapes.{afterNode, nodesAt}
 use Rattle.laws.specs.Rising.{Rising}
-use Rattle.laws.specs.Judged.{document-rises}
+use Rattle.laws.specs.JudgingGives.{document-rises}
 use Rattle.places.specs.Bytes.{pairAt, numberAt}
 use Rattle.places.specs.Answer.{passed, passed-on}
 use Rattle.places.specs.Section.{section-read, section-number}
@@ -26,11 +26,11 @@ use Rattle.labels.specs.LabelSection.{labelsPlace, labelsSection}
 use Rattle.reading.specs.SheetPlaces.{sheetAt}
 use Rattle.reading.specs.SheetSection.{sheetSection, sheetPlace}
 use Rattle.reading.specs.SheetJudged.{sheet-judged, SheetStands, sheet-stands}
-use Rattle.documents.specs.DocumentSection.{nodesSection, nodesPlace, documentSection, closingSection, documentPlace, nodeCountAt, documentAt}
+use Rattle.documents.specs.DocumentSection.{nodesSection, nodesPlace, documentSection, nodesToEnd, documentPlace, nodeCountAt, documentAt}
 
 -- where both end, the sheet judged first
-unfoldable pub bothPlace : List ℕ → List ℕ → Cur
-bothPlace s d = andThen (sheetPlace s) (λ x. documentPlace s d)
+unfoldable pub sheetDocumentPlace : List ℕ → List ℕ → Cur
+sheetDocumentPlace s d = andThen (sheetPlace s) (λ x. documentPlace s d)
 
 module _ {B : Type 0} (s d : List ℕ) (refuse : ℕ → B) where
   -- a document beside its sheet is answered by its place
@@ -40,16 +40,16 @@ module _ {B : Type 0} (s d : List ℕ) (refuse : ℕ → B) where
 
   -- the sheet first, then the document
   pub both-judged : (next : Sheet → Document → B)
-      → judged (sheet s) refuse (λ sh. judged (document sh d) refuse (next sh)) ≡ reached (bothPlace s d) refuse (next (sheetAt s) (documentAt d))
-  unfolding bothPlace
+      → judged (sheet s) refuse (λ sh. judged (document sh d) refuse (next sh)) ≡ reached (sheetDocumentPlace s d) refuse (next (sheetAt s) (documentAt d))
+  unfolding sheetDocumentPlace
   both-judged next =
       sheet-judged s refuse (λ sh. judged (document sh d) refuse (next sh))
       ∙ ap (reached (sheetPlace s) refuse) (document-judged (next (sheetAt s)))
       ∙ reached-twice (sheetPlace s) (documentPlace s d) refuse (next (sheetAt s) (documentAt d))
 
 -- the number of a document
-pub document-number : (s d : List ℕ) → numberAt (bothPlace s d) ≡ documentNumber s d
-unfolding documentNumber bothPlace sheetSection
+pub document-number : (s d : List ℕ) → numberAt (sheetDocumentPlace s d) ≡ documentNumber s d
+unfolding documentNumber sheetDocumentPlace sheetSection
 document-number s d = sym (number-after (sheetSection s) (λ sh. numberOf (document sh d)) (documentPlace s d) (section-number (documentSection s d)))
 
 -- n nodes from a place on
@@ -79,7 +79,7 @@ nodes-inside d known x y h =
 
 -- so it is of a document that was judged
 pub document-stands : (s d : List ℕ) (y at n : ℕ) → documentPlace s d ≡ At y → at ≡ nodeCountAt d + 2 → n ≡ pairAt d (nodeCountAt d) → NodesStand d at n
-unfolding documentSection closingSection labelsSection documentAt nodeCountAt
+unfolding documentSection nodesToEnd labelsSection documentAt nodeCountAt
 document-stands s d y at n h e f =
     let a = passed (ltb 0 (length d)) _ 1 y h in
     let b = passed (leb (getD s 0 0 + getD d 0 0) mostLabels) _ countOutside y (a .1) in
@@ -97,8 +97,8 @@ document-stands s d y at n h e f =
     section x z there k = nodes-inside d (getD s 0 0 + getD d 0 0) (nodeCountAt d) z (rw there at k)
 
 -- both stand where both were judged
-pub both-stand : (s d : List ℕ) (y at n : ℕ) → bothPlace s d ≡ At y → at ≡ nodeCountAt d + 2 → n ≡ pairAt d (nodeCountAt d) → SheetStands s × NodesStand d at n
-unfolding bothPlace
-both-stand s d y at n h e f =
+pub sheet-document-stand : (s d : List ℕ) (y at n : ℕ) → sheetDocumentPlace s d ≡ At y → at ≡ nodeCountAt d + 2 → n ≡ pairAt d (nodeCountAt d) → SheetStands s × NodesStand d at n
+unfolding sheetDocumentPlace
+sheet-document-stand s d y at n h e f =
     let a = passed-on (sheetPlace s) _ y h in
     (sheet-stands s (a .0) (a .1), document-stands s d y at n (a .2) e f)

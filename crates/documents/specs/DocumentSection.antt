@@ -96,17 +96,17 @@ nodeCountAt d = placeAfter (afterLabel d) 1 (getD d 0 0)
 unfoldable pub documentAt : List ℕ → Document
 documentAt d = record { labels = textsAt d 1 (getD d 0 0); nodes = nodesAt d (nodeCountAt d + 2) (pairAt d (nodeCountAt d)) }
 
-abbrev pub made : List (List ℕ) → List Node → Document
-made ls ds = record { labels = ls; nodes = ds }
+abbrev pub aDocument : List (List ℕ) → List Node → Document
+aDocument ls ds = record { labels = ls; nodes = ds }
 
 -- the nodes of a document of n labels, from their count at x on, and the end
-unfoldable pub closingSection : (s d : List ℕ) (n x : ℕ) → Section d (
+unfoldable pub nodesToEnd : (s d : List ℕ) (n x : ℕ) → Section d (
     _>>=_ (number 2) λ m.
     _>>_ (unless countOutside (leb 1 m && leb m mostNodes)) (
     _>>=_ (nodes (length (sheetAt s .labels) + n) m 1) λ ds.
-    _>>_ end (give (made (textsAt d 1 n) ds)))) x
+    _>>_ end (give (aDocument (textsAt d 1 n) ds)))) x
 unfolding nodesPlace nodesSection andThen
-closingSection s d n x =
+nodesToEnd s d n x =
     judgedAs (andThen (nodesPlace d (getD s 0 0 + n) x) (endPlace d)) (
     pairThen λ m.
     unlessBoth countOutside (leb 1 m) (leb m mostNodes) (
@@ -115,12 +115,12 @@ closingSection s d n x =
     (simp andThen-pick)
 
 unfoldable pub documentSection : (s d : List ℕ) → Section d (document (sheetAt s)) 0
-unfolding document closingSection documentAt nodeCountAt sheetAt labelsSection textsAt
+unfolding document nodesToEnd documentAt nodeCountAt sheetAt labelsSection textsAt
 documentSection s d =
     standsAs (documentAt d) _ (
     byteThen λ n.
     unlessAs countOutside (leb (getD s 0 0 + n) mostLabels) (ap (λ (k : ℕ). leb (k + n) mostLabels) (labels-counted s)) (
-    sectionThen _ (labelsSection s (getD s 0 0) d 1 n) (closingSection s d n)))
+    sectionThen _ (labelsSection s (getD s 0 0) d 1 n) (nodesToEnd s d n)))
     refl refl
 
 -- where a document ends, beside a sheet, or the number of its first fault

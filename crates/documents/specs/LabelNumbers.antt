@@ -16,18 +16,18 @@ use Rattle.meaning.specs.Calls.{judged, labelNumber, labelPart}
 use Rattle.labels.specs.LabelPlaces.{textAt, afterLabel, textsAt}
 use Rattle.reading.specs.SheetPlaces.{sheetAt}
 use Rattle.places.specs.Reached.{was-reached, was-refused}
-use Rattle.documents.specs.DocumentJudged.{both-judged, bothPlace}
+use Rattle.documents.specs.DocumentJudged.{both-judged, sheetDocumentPlace}
 use Rattle.documents.specs.DocumentSection.{documentAt}
 use Rattle.labels.specs.LabelSection.{length-texts}
 
 module _ {B : Type 0} (s d : List ℕ) (refuse : ℕ → B) (next : Sheet → Document → B) where
   -- both were read: what follows is of the sheet and the document that stand there
-  both-read : (x : ℕ) → bothPlace s d ≡ At x → judged (sheet s) refuse (λ sh. judged (document sh d) refuse (next sh)) ≡ next (sheetAt s) (documentAt d)
-  both-read x h = both-judged s d refuse next ∙ was-reached (bothPlace s d) x refuse (next (sheetAt s) (documentAt d)) h
+  both-read : (x : ℕ) → sheetDocumentPlace s d ≡ At x → judged (sheet s) refuse (λ sh. judged (document sh d) refuse (next sh)) ≡ next (sheetAt s) (documentAt d)
+  both-read x h = both-judged s d refuse next ∙ was-reached (sheetDocumentPlace s d) x refuse (next (sheetAt s) (documentAt d)) h
 
   -- one was refused
-  both-refused : (n : ℕ) → bothPlace s d ≡ No n → judged (sheet s) refuse (λ sh. judged (document sh d) refuse (next sh)) ≡ refuse n
-  both-refused n h = both-judged s d refuse next ∙ was-refused (bothPlace s d) n refuse (next (sheetAt s) (documentAt d)) h
+  both-refused : (n : ℕ) → sheetDocumentPlace s d ≡ No n → judged (sheet s) refuse (λ sh. judged (document sh d) refuse (next sh)) ≡ refuse n
+  both-refused n h = both-judged s d refuse next ∙ was-refused (sheetDocumentPlace s d) n refuse (next (sheetAt s) (documentAt d)) h
 
 -- ---- the labels of both
 
@@ -38,32 +38,32 @@ module _ (s d : List ℕ) (n : ℕ) where
   labels-counted = length-append (textsAt s 1 (getD s 0 0)) (textsAt d 1 (getD d 0 0)) ∙ rw (length-texts s 1 (getD s 0 0), length-texts d 1 (getD d 0 0))
 
   -- the number of a label: whether it exists
-  pub number-there : (x : ℕ) → bothPlace s d ≡ At x → 1 ≤ n → n ≤ getD s 0 0 + getD d 0 0 → 0 ≡ labelNumber s d n
+  pub number-there : (x : ℕ) → sheetDocumentPlace s d ≡ At x → 1 ≤ n → n ≤ getD s 0 0 + getD d 0 0 → 0 ≡ labelNumber s d n
   unfolding labelNumber isLabel pick
   number-there x h a b = sym (both-read s d (λ m. m) (λ sh dc. pick (isLabel (labelsOf sh dc) n) 0 11) x h ∙ rw (labels-counted, le-leb 1 n a, le-leb n (getD s 0 0 + getD d 0 0) b))
 
   -- 0 is no label
-  pub number-zero : (x : ℕ) → bothPlace s d ≡ At x → n < 1 → 11 ≡ labelNumber s d n
+  pub number-zero : (x : ℕ) → sheetDocumentPlace s d ≡ At x → n < 1 → 11 ≡ labelNumber s d n
   unfolding labelNumber isLabel pick
   number-zero x h a = sym (both-read s d (λ m. m) (λ sh dc. pick (isLabel (labelsOf sh dc) n) 0 11) x h ∙ rw (lt-leb 1 n a))
 
   -- nor is a number over S + D
-  pub number-over : (x : ℕ) → bothPlace s d ≡ At x → 1 ≤ n → getD s 0 0 + getD d 0 0 < n → 11 ≡ labelNumber s d n
+  pub number-over : (x : ℕ) → sheetDocumentPlace s d ≡ At x → 1 ≤ n → getD s 0 0 + getD d 0 0 < n → 11 ≡ labelNumber s d n
   unfolding labelNumber isLabel pick
   number-over x h a b = sym (both-read s d (λ m. m) (λ sh dc. pick (isLabel (labelsOf sh dc) n) 0 11) x h ∙ rw (labels-counted, le-leb 1 n a, lt-leb n (getD s 0 0 + getD d 0 0) b))
 
   -- a refusal gives its own number
-  pub number-refused : (m : ℕ) → bothPlace s d ≡ No m → m ≡ labelNumber s d n
+  pub number-refused : (m : ℕ) → sheetDocumentPlace s d ≡ No m → m ≡ labelNumber s d n
   unfolding labelNumber
   number-refused m h = sym (both-refused s d (λ k. k) (λ sh dc. pick (isLabel (labelsOf sh dc) n) 0 11) m h)
 
   -- the part of a label: empty on a refusal
-  pub part-refused : (m : ℕ) → bothPlace s d ≡ No m → [] ≡ labelPart s d n
+  pub part-refused : (m : ℕ) → sheetDocumentPlace s d ≡ No m → [] ≡ labelPart s d n
   unfolding labelPart
   part-refused m h = sym (both-refused s d (λ k. []) (λ sh dc. labelAt (labelsOf sh dc) n) m h)
 
   -- empty for 0
-  pub part-zero : (x : ℕ) → bothPlace s d ≡ At x → n < 1 → [] ≡ labelPart s d n
+  pub part-zero : (x : ℕ) → sheetDocumentPlace s d ≡ At x → n < 1 → [] ≡ labelPart s d n
   unfolding labelPart labelAt
   part-zero x h a = sym (both-read s d (λ k. []) (λ sh dc. labelAt (labelsOf sh dc) n) x h ∙ none n a)
     where
@@ -78,14 +78,14 @@ module _ (s d : List ℕ) (n : ℕ) where
   counted-from-one ls (suc k) a = let e : suc k - 1 ≡ k = omega arith in rw e
 
   -- otherwise it is one of both, counted from 0
-  told : (x : ℕ) → bothPlace s d ≡ At x → 1 ≤ n → labelPart s d n ≡ getD (textsAt s 1 (getD s 0 0) ++ textsAt d 1 (getD d 0 0)) (n - 1) []
+  told : (x : ℕ) → sheetDocumentPlace s d ≡ At x → 1 ≤ n → labelPart s d n ≡ getD (textsAt s 1 (getD s 0 0) ++ textsAt d 1 (getD d 0 0)) (n - 1) []
   unfolding labelPart labelsOf sheetAt documentAt
   told x h a =
       both-read s d (λ k. []) (λ sh dc. labelAt (labelsOf sh dc) n) x h
       ∙ counted-from-one (textsAt s 1 (getD s 0 0) ++ textsAt d 1 (getD d 0 0)) n a
 
   -- from the sheet's section
-  pub part-of-sheet : (x : ℕ) → bothPlace s d ≡ At x → 1 ≤ n → n ≤ getD s 0 0 → textAt s (placeAfter (afterLabel s) 1 (n - 1)) ≡ labelPart s d n
+  pub part-of-sheet : (x : ℕ) → sheetDocumentPlace s d ≡ At x → 1 ≤ n → n ≤ getD s 0 0 → textAt s (placeAfter (afterLabel s) 1 (n - 1)) ≡ labelPart s d n
   unfolding textsAt
   part-of-sheet x h a b =
       sym (told x h a
@@ -93,7 +93,7 @@ module _ (s d : List ℕ) (n : ℕ) where
       ∙ getD-standing (textAt s) (afterLabel s) 1 (getD s 0 0) (n - 1) [] (omega arith))
 
   -- from the document's
-  pub part-of-document : (x : ℕ) → bothPlace s d ≡ At x → getD s 0 0 < n → n - getD s 0 0 ≤ getD d 0 0 → textAt d (placeAfter (afterLabel d) 1 (n - getD s 0 0 - 1)) ≡ labelPart s d n
+  pub part-of-document : (x : ℕ) → sheetDocumentPlace s d ≡ At x → getD s 0 0 < n → n - getD s 0 0 ≤ getD d 0 0 → textAt d (placeAfter (afterLabel d) 1 (n - getD s 0 0 - 1)) ≡ labelPart s d n
   unfolding textsAt
   part-of-document x h a b =
       let past : n - 1 ≡ length (textsAt s 1 (getD s 0 0)) + (n - getD s 0 0 - 1) = omega (arith, length-texts s 1 (getD s 0 0)) in
@@ -103,7 +103,7 @@ module _ (s d : List ℕ) (n : ℕ) where
       ∙ getD-standing (textAt d) (afterLabel d) 1 (getD d 0 0) (n - getD s 0 0 - 1) [] (omega arith))
 
   -- empty past the last
-  pub part-over : (x : ℕ) → bothPlace s d ≡ At x → getD s 0 0 < n → getD d 0 0 < n - getD s 0 0 → [] ≡ labelPart s d n
+  pub part-over : (x : ℕ) → sheetDocumentPlace s d ≡ At x → getD s 0 0 < n → getD d 0 0 < n - getD s 0 0 → [] ≡ labelPart s d n
   part-over x h a b =
       let both = textsAt s 1 (getD s 0 0) ++ textsAt d 1 (getD d 0 0) in
       let long : length both ≡ getD s 0 0 + getD d 0 0 =

@@ -22,7 +22,7 @@ ghost use Rattle.meaning.specs.Sections.{nodeParent};
 ghost use Rattle.meaning.specs.Calls.{documentNumber, labelNumber, labelPart};
 ghost use Rattle.places.specs.Bytes.{pairAt};
 ghost use Rattle.documents.specs.DocumentSection.{nodeLabel, nodePlace, nodesPlace, documentPlace, nodeCountAt};
-ghost use Rattle.documents.specs.DocumentJudged.{bothPlace};
+ghost use Rattle.documents.specs.DocumentJudged.{sheetDocumentPlace};
 
 // Node 1 has parent 0, every other a parent from 1 to its own number less 1.
 fn node_parent(k: usize, p: usize) -> bool
@@ -136,7 +136,7 @@ pub fn document(s: &[u8], d: &[u8]) -> Cur
 
 // The sheet first, then the document.
 pub fn both(s: &[u8], d: &[u8]) -> Cur
-    ensures { λ r. ⌜ r ≡ bothPlace (now (s .entry)) (now (d .entry)) ⌝ }
+    ensures { λ r. ⌜ r ≡ sheetDocumentPlace (now (s .entry)) (now (d .entry)) ⌝ }
 {
     match sheet(s) {
         Cur::At(x) => document(s, d),

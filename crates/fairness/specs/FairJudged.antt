@@ -23,11 +23,11 @@ use Rattle.reading.specs.SheetSection.{sheetPlace}
 use Rattle.places.specs.Bytes.{numberAt}
 use Rattle.places.specs.Answer.{passed-on}
 use Rattle.reading.specs.SheetJudged.{sheet-judged, sheet-stands}
-use Rattle.patterns.specs.declared.Subscriptions.{Subscriptions}
-use Rattle.patterns.specs.Taken.{subscriptionsOf}
-use Rattle.patterns.specs.Subscribed.{SubscriptionsStand, subscriptions-stand}
+use Rattle.subscriptions.specs.declared.Subscriptions.{Subscriptions}
+use Rattle.subscriptions.specs.Taken.{subscriptionsOf}
+use Rattle.subscriptions.specs.Subscribed.{SubscriptionsStand, subscriptions-stand}
 use Rattle.tables.specs.declared.Entries.{Entries}
-use Rattle.tables.specs.TableSection.{tablePlace, bothPlace, tableEntries}
+use Rattle.tables.specs.TableSection.{tablePlace, sheetTablePlace, tableEntries}
 use Rattle.tables.specs.TableJudged.{EntriesStand, entries-stand}
 use Rattle.fairness.specs.Each.{isFit, fair-parts}
 use Rattle.places.specs.Fields.{given, unlessThen, sectionThen}
@@ -87,16 +87,16 @@ all-fit s t n r q e h k l =
 
 module _ (s t : List ℕ) where
   -- where both were judged, subscriptions and entries stand
-  pub both-stand : (y : ℕ) (v : Subscriptions) (w : Entries) → bothPlace s t ≡ At y → v ≡ subscriptionsOf s → w ≡ tableEntries t → SubscriptionsStand s v × EntriesStand t w
-  unfolding bothPlace
-  both-stand y v w h e f =
+  pub sheet-table-stand : (y : ℕ) (v : Subscriptions) (w : Entries) → sheetTablePlace s t ≡ At y → v ≡ subscriptionsOf s → w ≡ tableEntries t → SubscriptionsStand s v × EntriesStand t w
+  unfolding sheetTablePlace
+  sheet-table-stand y v w h e f =
       let a = passed-on (sheetPlace s) _ y h in
       let sound = sheet-stands s (a .0) (a .1) in
       (subscriptions-stand s v sound e, entries-stand s t y (a .2) w f)
 
   -- the bytes of both first, 12 last
-  last : fairPlace s t ≡ andThen (bothPlace s t) (λ x. pick (fairAt s t) (At x) (No 12))
-  unfolding fairPlace fairTableSection bothPlace andThen
+  last : fairPlace s t ≡ andThen (sheetTablePlace s t) (λ x. pick (fairAt s t) (At x) (No 12))
+  unfolding fairPlace fairTableSection sheetTablePlace andThen
   last = go (sheetPlace s)
     where
       go : (c : Cur) → andThen c (λ x. andThen (tablePlace s t) (λ y. pick (fairAt s t) (At y) (No 12))) ≡ andThen (andThen c (λ x. tablePlace s t)) (λ y. pick (fairAt s t) (At y) (No 12))
@@ -104,22 +104,22 @@ module _ (s t : List ℕ) where
       go (No n) = refl
 
   -- the table is fair
-  pub place-fair : (y : ℕ) (r : Bool) → bothPlace s t ≡ At y → r ≡ fairAt s t → r ≡ true → At y ≡ fairPlace s t
+  pub place-fair : (y : ℕ) (r : Bool) → sheetTablePlace s t ≡ At y → r ≡ fairAt s t → r ≡ true → At y ≡ fairPlace s t
   unfolding andThen pick
   place-fair y r h e k = sym (last ∙ rw (h, ← e, k))
 
   -- it is not
-  pub place-not-fair : (y : ℕ) (r : Bool) → bothPlace s t ≡ At y → r ≡ fairAt s t → r ≡ false → No 12 ≡ fairPlace s t
+  pub place-not-fair : (y : ℕ) (r : Bool) → sheetTablePlace s t ≡ At y → r ≡ fairAt s t → r ≡ false → No 12 ≡ fairPlace s t
   unfolding andThen pick
   place-not-fair y r h e k = sym (last ∙ rw (h, ← e, k))
 
   -- the bytes are refused
-  pub place-refused : (m : ℕ) → bothPlace s t ≡ No m → No m ≡ fairPlace s t
+  pub place-refused : (m : ℕ) → sheetTablePlace s t ≡ No m → No m ≡ fairPlace s t
   unfolding andThen
   place-refused m h = sym (last ∙ rw h)
 
   -- where the table check was passed, subscriptions and entries stand
   pub fair-stand : (y : ℕ) (v : Subscriptions) (w : Entries) → fairPlace s t ≡ At y → v ≡ subscriptionsOf s → w ≡ tableEntries t → SubscriptionsStand s v × EntriesStand t w
   fair-stand y v w h e f =
-      let a = passed-on (bothPlace s t) _ y (sym last ∙ h) in
-      both-stand (a .0) v w (a .1) e f
+      let a = passed-on (sheetTablePlace s t) _ y (sym last ∙ h) in
+      sheet-table-stand (a .0) v w (a .1) e f

@@ -1,4 +1,4 @@
-pub mod Members
+pub mod EntryMembers
 pub mod Weighing
 pub mod Each
 pub mod FairJudged

@@ -5,10 +5,10 @@ use meaning::MOST_ENTRIES;
 use meaning::NOT_FAIR;
 use members::is_member;
 use members::members_fit;
-use patterns::Subscriptions;
-use patterns::pattern_at;
-use patterns::subscriptions_in;
 use shapes::Pattern;
+use subscriptions::Subscriptions;
+use subscriptions::pattern_at;
+use subscriptions::subscriptions_in;
 use tables::Entries;
 use tables::both;
 use tables::entries_in;
@@ -20,12 +20,12 @@ ghost use Rattle.base.specs.Lists.{every};
 ghost use Rattle.meaning.specs.Numbers.{mostEntries, mostPatterns};
 ghost use Rattle.meaning.specs.Fair.{entriesOf, oneThatCovers, eachInOne};
 ghost use Rattle.meaning.specs.Calls.{tableNumber};
-ghost use Rattle.shapes.specs.Shapes.{patternOf, entryOf, SoundPattern};
+ghost use Rattle.shapes.specs.Shapes.{patternOf, entryOf, WellFormed};
 ghost use Rattle.reading.specs.SheetPlaces.{sheetAt};
-ghost use Rattle.patterns.specs.Subscribed.{SubscriptionsStand};
+ghost use Rattle.subscriptions.specs.Subscribed.{SubscriptionsStand};
 ghost use Rattle.tables.specs.TableSection.{entryTaken, tableAt};
 ghost use Rattle.tables.specs.TableJudged.{EntriesStand};
-ghost use Rattle.fairness.specs.Members.{MembersStand};
+ghost use Rattle.fairness.specs.EntryMembers.{MembersStand};
 ghost use Rattle.fairness.specs.Weighing.{weighed};
 ghost use Rattle.fairness.specs.Each.{isFit};
 ghost use Rattle.fairness.specs.FairJudged.{fairAt, fairPlace};
@@ -62,7 +62,7 @@ fn members_in(t: &[u8], entries: Entries) -> [u64; MOST_ENTRIES]
 // Weighs the entry at x for subscription i, whose pattern is p: 0 while no entry has it, 1 after one that covers it, 2 after
 // any other.
 fn weigh(t: &[u8], x: usize, members: u64, i: usize, p: Pattern, found: u8) -> u8
-    requires { ⌜ (members ≡ entryTaken (now t) x .members) × SoundPattern (entryTaken (now t) x .pattern) × (i < mostPatterns) × SoundPattern p ⌝ }
+    requires { ⌜ (members ≡ entryTaken (now t) x .members) × WellFormed (entryTaken (now t) x .pattern) × (i < mostPatterns) × WellFormed p ⌝ }
     ensures { λ r. ⌜ r ≡ weighed i (patternOf p) (entryOf (entryTaken (now (t .entry)) x)) found ⌝ }
 {
     if !is_member(members, i) {
@@ -80,7 +80,7 @@ fn weigh(t: &[u8], x: usize, members: u64, i: usize, p: Pattern, found: u8) -> u
 
 // Is subscription i, whose pattern is p, in exactly one entry, and does that entry cover it?
 fn stands(t: &[u8], entries: Entries, members: [u64; MOST_ENTRIES], i: usize, p: Pattern) -> bool
-    requires { ⌜ EntriesStand (now t) entries × MembersStand (now t) entries members × (i < mostPatterns) × SoundPattern p ⌝ }
+    requires { ⌜ EntriesStand (now t) entries × MembersStand (now t) entries members × (i < mostPatterns) × WellFormed p ⌝ }
     ensures { λ r. ⌜ r ≡ oneThatCovers (patternOf p) (entriesOf i (tableAt (now (t .entry)))) ⌝ }
 {
     let mut found = 0;

@@ -1,1 +1,1 @@
-pub mod Sharp
+pub mod SharpForC

@@ -1,3 +1,3 @@
 pub mod LabelPlaces
 pub mod LabelSection
-pub mod Turns
+pub mod LabelLoops

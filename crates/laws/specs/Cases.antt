@@ -41,8 +41,8 @@ pub data Answer : Type 0 where
 unfoldable pub ofR : ℕ → Forest
 ofR i = judged (sheet sheetR) (λ n. none) (λ sh. subscription sh i)
 
-unfoldable pub answers : List Answer
-answers =
+unfoldable pub caseAnswers : List Answer
+caseAnswers =
     -- 1
     asks (matchesAnswer sheetR documentD1 0)
     ∷ asks (matchesAnswer sheetR documentD1 1)
@@ -78,8 +78,8 @@ answers =
     ∷ routesBy (tableAnswer sheetR tableR3 documentD1)
     ∷ []
 
-unfoldable pub expected : List Answer
-expected =
+unfoldable pub caseExpected : List Answer
+caseExpected =
     -- 1: D1 satisfies s0 and s2 and not s1; plain route 5
     asks (asked.Said true)
     ∷ asks (asked.Said false)
@@ -116,9 +116,9 @@ expected =
     ∷ []
 
 -- the one claim
-pub rose-bench : answers ≡ expected
+pub rose-bench : caseAnswers ≡ caseExpected
 unfolding
-    answers expected ofR sheetR documentD1 documentSony tableR3 tableR2 tableR0 mergeR01 slash slashes a b c star ascii flatMap pick some every keep total without numbersFrom go-on _>>=_ _>>_ give repeat unless byte bytes number end numberOf axisOf axisNumber isNear size childrenIn forest stepsFrom stepsOf parentIn isChild isBelowIn isBelow reaches sameLabel label labels upFrom pathAfter mayHang isNearRoot nearRoot aStep steps pattern sheet nodeParent aNode nodes document entry table anyOrSame parentsOf labelIn fitsBelow holdBelow satisfies mayLie finds fitsAt lays covers alone joined branchSize laidOn staysBeside nothing offer commonLabel bodyOf meet meetAt across through mergeWithin merge noEntry entryAt entrySteps stepsTogether entriesFrom pair coversOther ascends pairsOf pairsBelow joinAt covering settleAt settleTimes settle saves better bestOf bestPair cut largest cutLargest mergeOrCut round roundsFrom build isMember hasMember entriesOf oneThatCovers eachInOne isPeopled isWithin fair deliverySet plainRoute membersOf matchesFor deliveredFrom tableRoute triedFor tried stepBytes patternBytes numberBytes entryBytes tableBytes judged fairTable isSubscription subscription matchesAnswer coversAnswer mergeWriting buildWriting plainAnswer tableAnswer
+    caseAnswers caseExpected ofR sheetR documentD1 documentSony tableR3 tableR2 tableR0 mergeR01 slash slashes a b c star ascii flatMap pick some every keep total without numbersFrom go-on _>>=_ _>>_ give repeat unless byte bytes number end numberOf axisOf axisNumber isNear size childrenIn forest stepsFrom stepsOf parentIn isChild isBelowIn isBelow reaches sameLabel label labels upFrom pathAfter mayHang isNearRoot nearRoot aStep steps pattern sheet nodeParent aNode nodes document entry table anyOrSame parentsOf labelIn fitsBelow holdBelow satisfies mayLie finds fitsAt lays covers alone joined branchSize laidOn staysBeside nothing offer commonLabel bodyOf meet meetAt across through mergeWithin merge noEntry entryAt entrySteps stepsTogether entriesFrom pair coversOther ascends pairsOf pairsBelow joinAt covering settleAt settleTimes settle saves better bestOf bestPair cut largest cutLargest mergeOrCut round roundsFrom build isMember hasMember entriesOf oneThatCovers eachInOne isPeopled isWithin fair deliverySet plainRoute membersOf matchesFor deliveredFrom tableRoute triedFor tried stepBytes patternBytes numberBytes entryBytes tableBytes judged fairTable isSubscription subscription matchesAnswer coversAnswer mergeWriting buildWriting plainAnswer tableAnswer
 rose-bench = refl
 
 -- what the program prints for R at limit 2, exactly

@@ -32,17 +32,17 @@ use Rattle.meaning.specs.declared.Asked.the-variants as asked
 use Rattle.meaning.specs.declared.Routed.the-variants as routed
 use Rattle.meaning.specs.declared.Tabled.the-variants as tabled
 use Rattle.laws.specs.Refusals.{NotZero, Numbered, sheet-numbered, document-numbered, fair-table-numbered, asking-numbered}
-use Rattle.laws.specs.Answers as answers
+use Rattle.laws.specs.AnswerNumbers as answers
 use Rattle.laws.specs.Bridge.{forest-stepsOf}
 use Rattle.laws.specs.WrittenRising.{written-rises}
 use Rattle.laws.specs.Layings.{lays-of-laying, laying-of-lays}
 use Rattle.laws.specs.Labels.{document-distinct}
 use Rattle.laws.specs.LabelsStand.{StandsIn, sheet-label-stands, document-label-stands}
-use Rattle.laws.specs.ByBytes.{same-number, read-by-bytes}
-use Rattle.laws.specs.Judged.{document-rises}
+use Rattle.laws.specs.BytesDecide.{same-number, read-by-bytes}
+use Rattle.laws.specs.JudgingGives.{document-rises}
 use Rattle.laws.specs.RoundTrip.{sheet-read}
-use Rattle.laws.specs.Merging.{merge-covers-first, merge-covers-second}
-use Rattle.laws.specs.Standing.{fair-just-one}
+use Rattle.laws.specs.MergeCovers.{merge-covers-first, merge-covers-second}
+use Rattle.laws.specs.InOneEntry.{fair-just-one}
 use Rattle.laws.specs.Rounds.{build-within, build-rounds}
 use Rattle.laws.specs.Passing as built
 use Rattle.laws.specs.Routes.{table-is-plain, fair-table-fair, delivered-bit}
@@ -238,7 +238,7 @@ module _ (s left : List ℕ) (sh : Sheet) (was-read : sheet s ≡ read sh left) 
   building limit = (rw was-read, build-within limit (sh .patterns), build-rounds limit (sh .patterns))
 
 -- ---- the examples marked P, as a single list under one claim
-pub rose-bench : cases.answers ≡ cases.expected
+pub rose-bench : cases.caseAnswers ≡ cases.caseExpected
 rose-bench = cases.rose-bench
 
 -- ======== 3. "Take any sheet, any document sound for it, and any table that passes the table check: every subscription stands in

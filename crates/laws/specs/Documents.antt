@@ -16,7 +16,7 @@ use Rattle.meaning.specs.Covering.{mayLie, stepAt, stepParents, finds, fitsAt, 
 use Rattle.meaning.specs.declared.Step.{Step}
 use Rattle.laws.specs.Rising.{Rising}
 use Rattle.laws.specs.Children.{childrenOf, children-of-root}
-use Rattle.laws.specs.Places.{passesAt, finds-spot, spot-found}
+use Rattle.laws.specs.NumberedPlaces.{passesAt, finds-spot, spot-found}
 use Rattle.laws.specs.Laying.{lays-trans}
 
 -- a node as a near step

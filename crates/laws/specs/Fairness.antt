@@ -25,13 +25,13 @@ use Rattle.meaning.specs.Building.{Pair, noEntry, entryAt, entriesFrom, joinAt,
 use Rattle.meaning.specs.Fair.{isMember, hasMember, isPeopled, isWithin, fair}
 use Rattle.laws.specs.Laying.{covers-refl, covers-trans}
 use Rattle.laws.specs.Cutting.{cut-covers}
-use Rattle.laws.specs.Merging.{merge-covers-first, merge-covers-second}
-use Rattle.laws.specs.Members.{member-or, member-none, member-alone, or-peopled}
+use Rattle.laws.specs.MergeCovers.{merge-covers-first, merge-covers-second}
+use Rattle.laws.specs.MemberBits.{member-or, member-none, member-alone, or-peopled}
 use Rattle.laws.specs.Unions.{Apart, union, join-gives, total-joinAt}
 use Rattle.laws.specs.Settling.{Takes, settle-keeps}
 use Rattle.laws.specs.Chosen.{Saves}
-use Rattle.laws.specs.Rounds.{merged, shorter, Kept, round-keeps, table-keeps}
-use Rattle.laws.specs.Standing.{counted, Stands, Carries, fair-of, fair-carried, each-of}
+use Rattle.laws.specs.Rounds.{merged, cutEntry, Kept, round-keeps, table-keeps}
+use Rattle.laws.specs.InOneEntry.{counted, Stands, Carries, fair-of, fair-carried, each-of}
 
 -- ---- a join carries, where the pattern that then stands covers both
 
@@ -112,26 +112,26 @@ module _ (q : Forest) (ij : Pair) (es : List Entry) (a : Apart es ij)
 
 module _ (es : List Entry) (at : ℕ) (h : at < length es) where
   -- members stay where they are, and a cut covers what the whole covers
-  cut-carries : Carries es (set es at (shorter (entryAt es at)))
-  unfolding shorter entryAt isPeopled isWithin counted hasMember
+  cut-carries : Carries es (set es at (cutEntry (entryAt es at)))
+  unfolding cutEntry entryAt isPeopled isWithin counted hasMember
   cut-carries = record { peopled = kept isPeopled refl; within = λ n. kept (isWithin n) refl; stands = λ i p s. record { once = once i (s .once); covered = covered i p s } }
     where
       one : List·Memᴰ (entryAt es at) es
       one = place-in es at noEntry h
 
-      kept : (t : Entry → Bool) → t (shorter (entryAt es at)) ≡ t (entryAt es at) → every t es ≡ true → every t (set es at (shorter (entryAt es at))) ≡ true
-      kept t same k = every-of t (set es at (shorter (entryAt es at))) (λ e m.
-          ⊎-elim (λ u. ap t u ∙ same ∙ every-gives t k one) (every-gives t k) (set-gives es at (shorter (entryAt es at)) m))
+      kept : (t : Entry → Bool) → t (cutEntry (entryAt es at)) ≡ t (entryAt es at) → every t es ≡ true → every t (set es at (cutEntry (entryAt es at))) ≡ true
+      kept t same k = every-of t (set es at (cutEntry (entryAt es at))) (λ e m.
+          ⊎-elim (λ u. ap t u ∙ same ∙ every-gives t k one) (every-gives t k) (set-gives es at (cutEntry (entryAt es at)) m))
 
-      once : (i : ℕ) → total (counted i) es ≡ 1 → total (counted i) (set es at (shorter (entryAt es at))) ≡ 1
+      once : (i : ℕ) → total (counted i) es ≡ 1 → total (counted i) (set es at (cutEntry (entryAt es at))) ≡ 1
       once i s =
-          let same : counted i (shorter (entryAt es at)) ≡ counted i (entryAt es at) = refl in
-          omega (arith, total-set (counted i) es at (shorter (entryAt es at)) noEntry h)
+          let same : counted i (cutEntry (entryAt es at)) ≡ counted i (entryAt es at) = refl in
+          omega (arith, total-set (counted i) es at (cutEntry (entryAt es at)) noEntry h)
 
-      covered : (i : ℕ) (p : Forest) → Stands i p es → (e : Entry) → List·Memᴰ e (set es at (shorter (entryAt es at))) → hasMember i e ≡ true → covers (e .pattern) p ≡ true
-      covered i p s e m t = go (set-gives es at (shorter (entryAt es at)) m)
+      covered : (i : ℕ) (p : Forest) → Stands i p es → (e : Entry) → List·Memᴰ e (set es at (cutEntry (entryAt es at))) → hasMember i e ≡ true → covers (e .pattern) p ≡ true
+      covered i p s e m t = go (set-gives es at (cutEntry (entryAt es at)) m)
         where
-          go : (e ≡ shorter (entryAt es at)) ⊎ List·Memᴰ e es → covers (e .pattern) p ≡ true
+          go : (e ≡ cutEntry (entryAt es at)) ⊎ List·Memᴰ e es → covers (e .pattern) p ≡ true
           go (inl u) =
               ap (λ (f : Entry). covers (f .pattern) p) u
               ∙ covers-trans (cut (entryAt es at .pattern)) (entryAt es at .pattern) p (cut-covers (entryAt es at .pattern)) (s .covered (entryAt es at) one (sym (ap (hasMember i) u) ∙ t))
@@ -215,7 +215,7 @@ takes-fair ps = record { takes = takes }
 -- and so do a merge and a cut
 kept-fair : (ps : List Forest) → Kept (λ es. fair ps es ≡ true)
 unfolding merged merge
-kept-fair ps = record { settles = takes-fair ps; merges = merges; cuts = λ es i l h. fair-carried ps es (set es i (shorter (entryAt es i))) (cut-carries es i l) h }
+kept-fair ps = record { settles = takes-fair ps; merges = merges; cuts = λ es i l h. fair-carried ps es (set es i (cutEntry (entryAt es i))) (cut-carries es i l) h }
   where
     merges : (es : List Entry) (ij : Pair) → Saves es ij → fair ps es ≡ true → fair ps (joinAt (merged es ij) ij es) ≡ true
     merges es ij s h =

@@ -17,7 +17,7 @@ use Rattle.meaning.specs.declared.Step.{Step}
 use Rattle.laws.specs.Rising.{Rising}
 use Rattle.laws.specs.Below.{child-of-parent}
 use Rattle.laws.specs.Children.{childrenOf, children-of-root, parent-is, is-child, parent-before}
-use Rattle.laws.specs.Places.{passesAt, Spot, finds-spot, spot-found}
+use Rattle.laws.specs.NumberedPlaces.{passesAt, Spot, finds-spot, spot-found}
 
 -- ---- the child steps of a step are laid exactly if each of them finds a place
 

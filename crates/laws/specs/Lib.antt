@@ -8,7 +8,7 @@ pub mod Blocks
 pub mod WrittenRising
 pub mod Below
 pub mod Children
-pub mod Places
+pub mod NumberedPlaces
 -- laying, and satisfying as laying
 pub mod Laying
 pub mod Layings
@@ -18,35 +18,35 @@ pub mod Cutting
 pub mod Walking
 pub mod Choosing
 pub mod Offering
-pub mod Joining
-pub mod Merging
+pub mod JoinedBranches
+pub mod MergeCovers
 pub mod MergeSize
 pub mod MergeLabels
 pub mod MergeNears
 -- building and fairness
-pub mod Members
+pub mod MemberBits
 pub mod Unions
 pub mod Settling
 pub mod Chosen
 pub mod Rounds
-pub mod Standing
+pub mod InOneEntry
 pub mod Fairness
-pub mod Tables
+pub mod EveryEntry
 -- what was read, and what was written
 pub mod Readers
 pub mod Refusals
-pub mod Answers
+pub mod AnswerNumbers
 pub mod DocumentRead
 pub mod Labels
 pub mod Preorder
 pub mod Sound
-pub mod Judged
+pub mod JudgingGives
 pub mod WrittenSound
-pub mod SoundPattern
+pub mod SoundPatterns
 pub mod ReadNumbers
 pub mod RoundTrip
 pub mod LabelsStand
-pub mod ByBytes
+pub mod BytesDecide
 -- what was built passes the check
 pub mod Passing
 -- routes

@@ -11,7 +11,7 @@ use Rattle.meaning.specs.Merging.{branchSize, Building, nothing, through, merge
 use Rattle.laws.specs.Walking.{itself, EachPair, through-keeps}
 use Rattle.laws.specs.Choosing.{merge-keeps}
 use Rattle.laws.specs.Offering.{meet-size}
-use Rattle.laws.specs.Joining.{joined-size}
+use Rattle.laws.specs.JoinedBranches.{joined-size}
 
 module _ (limit : ℕ) where
   -- the body being built is within the limit, where its own step is

@@ -74,12 +74,12 @@ outside-afterwards p k kids later after h o =
     (outside-more p k (suc k + size kids + size later) (suc k + size kids) after (omega arith) (omega arith) o)
 
 -- a step as it is written
-unfoldable pub written : ℕ → Axis → ℕ → Step
-written p a m = record { parent = p; axis = axisNumber a; label = m }
+unfoldable pub writtenStep : ℕ → Axis → ℕ → Step
+writtenStep p a m = record { parent = p; axis = axisNumber a; label = m }
 
 -- a forest's steps: its first, those below that, and what follows
 pub steps-split : (p k : ℕ) (a : Axis) (m : ℕ) (kids later : Forest) (after : List Step)
-    → stepsFrom p k (step a m kids later) ++ after ≡ written p a m ∷ (stepsFrom k (suc k) kids ++ afterwards p k kids later after)
-unfolding stepsFrom afterwards written
+    → stepsFrom p k (step a m kids later) ++ after ≡ writtenStep p a m ∷ (stepsFrom k (suc k) kids ++ afterwards p k kids later after)
+unfolding stepsFrom afterwards writtenStep
 steps-split p k a m kids later after =
-    ap (λ (l : List Step). written p a m ∷ l) (append-assoc (stepsFrom k (suc k) kids) (stepsFrom p (suc k + size kids) later) after)
+    ap (λ (l : List Step). writtenStep p a m ∷ l) (append-assoc (stepsFrom k (suc k) kids) (stepsFrom p (suc k + size kids) later) after)

@@ -18,7 +18,7 @@ use Rattle.meaning.specs.Written.{tableBytes}
 use Rattle.meaning.specs.Calls.{judged, fairTable, tableNumber, Writing, refuses, writes, withRoom, after, buildWriting, buildAnswer}
 use Rattle.meaning.specs.Given.{refusal, gives, builtGiven}
 use Rattle.laws.specs.Fairness.{build-fair}
-use Rattle.laws.specs.Tables.{EachPattern, build-steps, build-labels, build-nears, build-length, build-members}
+use Rattle.laws.specs.EveryEntry.{EachPattern, build-steps, build-labels, build-nears, build-length, build-members}
 use Rattle.laws.specs.RoundTrip.{sheet-read, SoundTable, table-again}
 
 module _ (s left : List ℕ) (sh : Sheet) (was-read : sheet s ≡ read sh left) (limit : ℕ) where

@@ -13,7 +13,7 @@ use Rattle.meaning.specs.Sections.{label, labels, pattern, Sheet, sheet, Entry,
 use Rattle.meaning.specs.Written.{patternBytes, numberBytes, entryBytes, tableBytes, labelBytes, sheetBytes}
 use Rattle.laws.specs.Readers.{give-read, bind-read, read-bind, test-read, read-test, byte-read, end-read}
 use Rattle.laws.specs.ReadNumbers.{Bytes, bytes-left, bytes-read, number-read, read-number, repeat-read, read-repeat}
-use Rattle.laws.specs.SoundPattern.{SoundPattern, pattern-read, read-pattern}
+use Rattle.laws.specs.SoundPatterns.{SoundPattern, pattern-read, read-pattern}
 
 -- ---- sheets
 

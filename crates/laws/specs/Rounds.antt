@@ -26,14 +26,14 @@ unfoldable pub merged : List Entry → Pair → Forest
 merged es ij = merge (entryAt es (ij .fst) .pattern) (entryAt es (ij .snd) .pattern) .pattern
 
 -- an entry without its last step
-unfoldable pub shorter : Entry → Entry
-shorter e = record { members = e .members; pattern = cut (e .pattern) }
+unfoldable pub cutEntry : Entry → Entry
+cutEntry e = record { members = e .members; pattern = cut (e .pattern) }
 
 -- Q is kept by a removal where one entry covers another, by a merge that saves, and by a cut
 pub record Kept (Q : List Entry → Type 0) : Type 0 where
   pub settles : Takes Q
   pub merges : (es : List Entry) (ij : Pair) → Saves es ij → Q es → Q (joinAt (merged es ij) ij es)
-  pub cuts : (es : List Entry) (i : ℕ) → i < length es → Q es → Q (set es i (shorter (entryAt es i)))
+  pub cuts : (es : List Entry) (i : ℕ) → i < length es → Q es → Q (set es i (cutEntry (entryAt es i)))
 
 -- the entry with most steps is there, where there are entries
 largest-at : (e : Entry) (es : List Entry) → largest (e ∷ es) (numbersFrom 0 (length (e ∷ es))) 0 < length (e ∷ es)
@@ -50,7 +50,7 @@ counted t = record { entries = t .entries; rounds = suc (t .rounds) }
 module _ (Q : List Entry → Type 0) (k : Kept Q) where
   -- the cut, where there are entries
   cut-keeps : (es : List Entry) → Q es → Q (cutLargest es)
-  unfolding cutLargest shorter
+  unfolding cutLargest cutEntry
   cut-keeps [] q = q
   cut-keeps (e ∷ es) q = k .cuts (e ∷ es) (largest (e ∷ es) (numbersFrom 0 (length (e ∷ es))) 0) (largest-at e es) q
 
@@ -84,15 +84,15 @@ module _ (Q : List Entry → Type 0) (k : Kept Q) where
 
 -- an entry that loses a step leaves fewer
 cut-saves : (es : List Entry) → 0 < stepsTogether es → stepsTogether (cutLargest es) < stepsTogether es
-unfolding cutLargest stepsTogether total entryAt entrySteps shorter
+unfolding cutLargest stepsTogether total entryAt entrySteps cutEntry
 cut-saves [] h = absurd (omega arith)
 cut-saves (e ∷ es) h =
     let n : ℕ = length (e ∷ es) in
     let i : ℕ = largest (e ∷ es) (numbersFrom 0 n) 0 in
     let one : Entry = entryAt (e ∷ es) i in
-    let after : stepsTogether (cutLargest (e ∷ es)) + entrySteps one ≡ stepsTogether (e ∷ es) + entrySteps (shorter one)
-    = total-set entrySteps (e ∷ es) i (shorter one) noEntry (largest-at e es) in
-    let less : suc (entrySteps (shorter one)) ≡ entrySteps one = size-cut (one .pattern) (largest-has-steps (e ∷ es) h) in
+    let after : stepsTogether (cutLargest (e ∷ es)) + entrySteps one ≡ stepsTogether (e ∷ es) + entrySteps (cutEntry one)
+    = total-set entrySteps (e ∷ es) i (cutEntry one) noEntry (largest-at e es) in
+    let less : suc (entrySteps (cutEntry one)) ≡ entrySteps one = size-cut (one .pattern) (largest-has-steps (e ∷ es) h) in
     omega arith
 
 -- a merge that saves, or a cut, leaves fewer steps

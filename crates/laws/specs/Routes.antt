@@ -25,8 +25,8 @@ use Rattle.meaning.specs.Calls.{fairTable}
 use Rattle.laws.specs.Rising.{Rising}
 use Rattle.laws.specs.Documents.{covering-loses-none}
 use Rattle.laws.specs.Readers.{give-read, bind-read, test-read}
-use Rattle.laws.specs.Members.{member-delivery}
-use Rattle.laws.specs.Standing.{fair-gives}
+use Rattle.laws.specs.MemberBits.{member-delivery}
+use Rattle.laws.specs.InOneEntry.{fair-gives}
 
 -- the entry in which a subscription stands
 pub entry-of : (p : Forest) (ks : List Entry) → oneThatCovers p ks ≡ true → (e : Entry) × List·Memᴰ e ks × (covers (e .pattern) p ≡ true)

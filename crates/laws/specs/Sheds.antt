@@ -9,7 +9,7 @@ use lib.ListN.{length}
 use Rattle.base.specs.Choice.{pick}
 use Rattle.base.specs.Lists.{total}
 use Rattle.meaning.specs.Routing.{deliverySet, shedsIn, lowestShed}
-use Rattle.laws.specs.Members.{delivery-half, delivery-odd}
+use Rattle.laws.specs.MemberBits.{delivery-half, delivery-odd}
 
 -- 1 for yes
 unfoldable pub yesCount : Bool → ℕ

@@ -8,7 +8,7 @@ use Rattle.meaning.specs.Forest.{Forest, none, step, size, stepsFrom, stepsOf}
 use Rattle.meaning.specs.Covering.{stepParents}
 use Rattle.meaning.specs.declared.Step.{Step}
 use Rattle.laws.specs.Rising.{Rising}
-use Rattle.laws.specs.Outside.{afterwards, written, steps-split}
+use Rattle.laws.specs.Outside.{afterwards, writtenStep, steps-split}
 
 -- every step, the first of them numbered k, has a parent with a lower number
 Low : ℕ → List Step → Type 0
@@ -17,7 +17,7 @@ Low k (s ∷ ss) = (s .parent < k) × Low (suc k) ss
 
 -- so have the steps of a forest
 low-written : (p k : ℕ) (f : Forest) (after : List Step) → p < k → Low (k + size f) after → Low k (stepsFrom p k f ++ after)
-unfolding Low stepsFrom size afterwards written
+unfolding Low stepsFrom size afterwards writtenStep
 low-written p k none after h l = subst (λ (n : ℕ). Low n after) (omega arith) l
 low-written p k (step a m kids later) after h l =
     let beside = low-written p (suc k + size kids) later after (omega arith) (subst (λ (n : ℕ). Low n after) (omega arith) l) in

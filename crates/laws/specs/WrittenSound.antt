@@ -17,7 +17,7 @@ use Rattle.meaning.specs.declared.Step.{Step}
 use Rattle.laws.specs.Bridge.{axis-low}
 use Rattle.laws.specs.Preorder.{Falling, falling-below, next-falling, up-member}
 use Rattle.laws.specs.Sound.{SoundSteps}
-use Rattle.laws.specs.Judged.{path-after}
+use Rattle.laws.specs.JudgingGives.{path-after}
 use Rattle.laws.specs.MergeLabels.{LabelsWithin}
 use Rattle.laws.specs.MergeNears.{nears}
 

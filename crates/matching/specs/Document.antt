@@ -8,17 +8,17 @@ use lib.ListN.{length, getD}
 use Rattle.meaning.specs.Forest.{parentIn}
 use Rattle.meaning.specs.Satisfying.{parentsOf, satisfies}
 use Rattle.shapes.specs.declared.Pattern.{Pattern}
-use Rattle.shapes.specs.Shapes.{nodesAt, stepsIn, patternOf, SoundPattern}
+use Rattle.shapes.specs.Shapes.{nodesAt, stepsIn, patternOf, WellFormed}
 use Rattle.shapes.specs.Steps.{few-steps}
 use Rattle.laws.specs.Rising.{Rising}
-use Rattle.matching.specs.Notes.{blank, noted}
+use Rattle.matching.specs.NodeNotes.{blank, noted}
 use Rattle.matching.specs.Giving.{kidsHold}
 use Rattle.matching.specs.Going.{Gave}
 use Rattle.matching.specs.Filled.{Filled}
 use Rattle.matching.specs.Filling.{fill-starts, fill-goes-on, fill-ends}
 use Rattle.matching.specs.Nodes.{length-parentsOf, length-nodesAt, parent-at, label-at}
 
-module _ (bs : List ℕ) (at n : ℕ) (p : Pattern) (sound : SoundPattern p) (rising : Rising (parentsOf (nodesAt bs at n))) where
+module _ (bs : List ℕ) (at n : ℕ) (p : Pattern) (sound : WellFormed p) (rising : Rising (parentsOf (nodesAt bs at n))) where
   -- before the first node nothing is noted
   pub notes-start : Filled (nodesAt bs at n) (stepsIn p) n blank
   notes-start = rw (length-nodesAt bs at n) at (fill-starts (nodesAt bs at n) (stepsIn p) rising (few-steps p sound))

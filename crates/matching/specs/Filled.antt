@@ -19,8 +19,8 @@ use Rattle.meaning.specs.declared.Step.{Step}
 use Rattle.laws.specs.Rising.{Rising}
 use Rattle.laws.specs.Below.{ByChild, child-above, reaches-child, reaches-join, reaches-split}
 use Rattle.laws.specs.Children.{childrenOf}
-use Rattle.matching.specs.Notes.{Whole, noted, StepNumber}
-use Rattle.matching.specs.Giving.{fits, gives}
+use Rattle.matching.specs.NodeNotes.{Whole, noted, StepNumber}
+use Rattle.matching.specs.Giving.{fits, givesUp}
 use Rattle.matching.specs.Nodes.{length-parentsOf}
 
 -- the axis of step k
@@ -32,8 +32,8 @@ abbrev pub isFar : List Step → ℕ → Bool
 isFar ss k = not (eqb (stepAt ss k .axis) 0)
 
 -- node w fits step k
-abbrev pub fitsAt : List Node → List Step → ℕ → ℕ → Bool
-fitsAt ns ss k w = fits (stepAt ss k) (labelIn ns w) (holdBelow ns (childrenOf ss k) w)
+abbrev pub nodeFits : List Node → List Step → ℕ → ℕ → Bool
+nodeFits ns ss k w = fits (stepAt ss k) (labelIn ns w) (holdBelow ns (childrenOf ss k) w)
 
 -- step k holds below node t
 unfoldable pub stepHolds : List Node → List Step → ℕ → ℕ → Bool
@@ -44,7 +44,7 @@ stepHolds ns ss t k =
 unfoldable pub givenBy : List Node → List Step → ℕ → ℕ → ℕ → Bool
 givenBy ns ss t k w =
     isChild (parentsOf ns) t w
-    && gives (stepAt ss k) (labelIn ns w) (holdBelow ns (childrenOf ss k) w) (stepHolds ns ss w k)
+    && givesUp (stepAt ss k) (labelIn ns w) (holdBelow ns (childrenOf ss k) w) (stepHolds ns ss w k)
 
 -- some child of t gives step k
 abbrev pub givenBelow : List Node → List Step → ℕ → ℕ → Bool
@@ -72,14 +72,14 @@ module _ (ns : List Node) (ss : List Step) (rising : Rising (parentsOf ns)) wher
     low : 1 ≤ u
     high : u ≤ length ns
     reached : reaches (axisAt ss k) (parentsOf ns) t u ≡ true
-    fitting : fitsAt ns ss k u ≡ true
+    fitting : nodeFits ns ss k u ≡ true
 
   holds-by : (t k : ℕ) → stepHolds ns ss t k ≡ true → (u : ℕ) × HoldsBy t k u
   unfolding stepHolds fitsBelow fits
   holds-by t k h =
       let (u, low, high, e) = some-number (fitsBelow ns t (axisAt ss k) (stepAt ss k .label) (holdBelow ns (childrenOf ss k))) 1 (length ns) h in
       let reached = reaches (axisAt ss k) (parentsOf ns) t u in
-      let fitting = fitsAt ns ss k u in
+      let fitting = nodeFits ns ss k u in
       (u, record { low = low; high = omega arith; reached = and-first reached fitting e; fitting = and-second reached fitting e })
 
   by-holds : (t k u : ℕ) → HoldsBy t k u → stepHolds ns ss t k ≡ true
@@ -87,28 +87,28 @@ module _ (ns : List Node) (ss : List Step) (rising : Rising (parentsOf ns)) wher
   by-holds t k u b = some-number-of _ 1 (length ns) u (b .low) (omega (arith, b .high)) (and-both _ _ (b .reached) (b .fitting))
 
   -- a child of t that fits the step, or below which a far step holds, gives it
-  gives-fitting : (t k w : ℕ) → 1 ≤ w → w ≤ length ns → isChild (parentsOf ns) t w ≡ true → fitsAt ns ss k w ≡ true → givenBelow ns ss t k ≡ true
-  unfolding givenBy gives
+  gives-fitting : (t k w : ℕ) → 1 ≤ w → w ≤ length ns → isChild (parentsOf ns) t w ≡ true → nodeFits ns ss k w ≡ true → givenBelow ns ss t k ≡ true
+  unfolding givenBy givesUp
   gives-fitting t k w low high c f = some-number-of _ 1 (length ns) w low (omega arith) (and-both _ _ c (or-second (isFar ss k && stepHolds ns ss w k) _ f))
 
   gives-far : (t k w : ℕ) → w ≤ length ns → isChild (parentsOf ns) t w ≡ true → isFar ss k ≡ true → stepHolds ns ss w k ≡ true → givenBelow ns ss t k ≡ true
-  unfolding givenBy gives
+  unfolding givenBy givesUp
   gives-far t k w high c y h =
       let above = child-above (parentsOf ns) rising t w (omega (arith, length-parentsOf ns)) c in
       some-number-of _ 1 (length ns) w (omega arith) (omega arith) (and-both _ _ c (or-first _ _ (and-both _ _ y h)))
 
   -- a step holds below t if some child of t gives it
   given-holds : (t k : ℕ) → givenBelow ns ss t k ≡ true → stepHolds ns ss t k ≡ true
-  unfolding givenBy gives
+  unfolding givenBy givesUp
   given-holds t k h =
       let (w, low, high, e) = some-number (givenBy ns ss t k) 1 (length ns) h in
       let child = isChild (parentsOf ns) t w in
       let below = isFar ss k && stepHolds ns ss w k in
-      let fitting = fitsAt ns ss k w in
+      let fitting = nodeFits ns ss k w in
       go w low high (and-first child (below || fitting) e) (or-cases below fitting (and-second child (below || fitting) e))
     where
       go : (w : ℕ) → 1 ≤ w → w < 1 + length ns → isChild (parentsOf ns) t w ≡ true
-          → ((isFar ss k && stepHolds ns ss w k) ≡ true) ⊎ (fitsAt ns ss k w ≡ true) → stepHolds ns ss t k ≡ true
+          → ((isFar ss k && stepHolds ns ss w k) ≡ true) ⊎ (nodeFits ns ss k w ≡ true) → stepHolds ns ss t k ≡ true
       go w low high c (inl b) =
           let x = far-axis (stepAt ss k .axis) (and-first (isFar ss k) (stepHolds ns ss w k) b) in
           let (v, by) = holds-by w k (and-second (isFar ss k) (stepHolds ns ss w k) b) in

@@ -19,7 +19,7 @@ use Rattle.meaning.specs.Covering.{stepAt}
 use Rattle.meaning.specs.declared.Step.{Step}
 use Rattle.laws.specs.Rising.{Rising}
 use Rattle.laws.specs.Children.{childrenFrom, childrenOf}
-use Rattle.matching.specs.Notes.{blank, noted, StepNumber, blank-whole, blank-noted}
+use Rattle.matching.specs.NodeNotes.{blank, noted, StepNumber, blank-whole, blank-noted}
 use Rattle.matching.specs.Giving.{kidsHold, givesAt}
 use Rattle.matching.specs.Going.{Gave}
 use Rattle.matching.specs.Filled.{stepHolds, givenBy, Filled, done-below}

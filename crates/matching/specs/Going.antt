@@ -13,7 +13,7 @@ use lib.Seq.{drop-length, getD-set-same, getD-set-other}
 use Rattle.base.specs.Choice.{pick}
 use Rattle.meaning.specs.Covering.{stepAt}
 use Rattle.meaning.specs.declared.Step.{Step}
-use Rattle.matching.specs.Notes.{Whole, noted, StepNumber, NotedToo}
+use Rattle.matching.specs.NodeNotes.{Whole, noted, StepNumber, NotedToo}
 use Rattle.matching.specs.Giving.{kidsHold, kids-from, givesAt, noLack, Weighed}
 
 -- after the turn of node u, whose parent is up: what was noted before, and below the parent what the node gives

@@ -1,4 +1,4 @@
-pub mod Notes
+pub mod NodeNotes
 pub mod Giving
 pub mod Going
 pub mod Filled

@@ -12,10 +12,10 @@ ghost use lib.ListN.{length, getD, set};
 ghost use Rattle.base.specs.Choice.{pick};
 ghost use Rattle.meaning.specs.Numbers.{mostNodes, mostSteps};
 ghost use Rattle.meaning.specs.Satisfying.{parentsOf, satisfies};
-ghost use Rattle.shapes.specs.Shapes.{stepsIn, patternOf, nodesAt, SoundPattern};
+ghost use Rattle.shapes.specs.Shapes.{stepsIn, patternOf, nodesAt, WellFormed};
 ghost use Rattle.laws.specs.Rising.{Rising};
-ghost use Rattle.matching.specs.Notes.{Whole, noted, HasCell, NotedToo};
-ghost use Rattle.matching.specs.Giving.{fits, gives, kidsHold, MayWeigh, Weighed};
+ghost use Rattle.matching.specs.NodeNotes.{Whole, noted, HasCell, NotedToo};
+ghost use Rattle.matching.specs.Giving.{fits, givesUp, kidsHold, MayWeigh, Weighed};
 ghost use Rattle.matching.specs.Going.{Gave};
 ghost use Rattle.matching.specs.Filled.{Filled};
 
@@ -52,7 +52,7 @@ fn fits(s: Step, label: u8, kids_hold: bool) -> bool
 
 // Does a node with this label give step s to its parent? Step s holds below the node or not.
 fn gives(s: Step, label: u8, kids_hold: bool, below: bool) -> bool
-    ensures { λ r. ⌜ r ≡ gives s label «kids_hold» below ⌝ }
+    ensures { λ r. ⌜ r ≡ givesUp s label «kids_hold» below ⌝ }
 {
     if s.axis == 0 {
         return fits(s, label, kids_hold);
@@ -94,7 +94,7 @@ fn weigh(
 
 // The turn of node u with this label, whose parent is node up: the steps go from the last to the first.
 fn give(cells: &mut [u8; CELLS], p: Pattern, u: usize, up: usize, label: u8)
-    requires { ⌜ SoundPattern p × Whole (now cells) × (u ≤ mostNodes) × (up ≤ mostNodes) ⌝ }
+    requires { ⌜ WellFormed p × Whole (now cells) × (u ≤ mostNodes) × (up ≤ mostNodes) ⌝ }
     ensures { λ r. ⌜ Gave (now (cells .entry)) (now (cells .exit)) (stepsIn p) u up label ⌝ }
 {
     let mut lacks: [u8; MOST_STEPS + 1] = [0; MOST_STEPS + 1];
@@ -116,7 +116,7 @@ fn two_bytes(d: &[u8], a: usize) -> usize
 
 // Fills the notes of a document of n nodes, from the last to the first.
 fn fill(cells: &mut [u8; CELLS], d: &[u8], at: usize, n: usize, p: Pattern)
-    requires { ⌜ SoundPattern p × (n ≤ mostNodes) × (at + 3 * n ≤ length (now d)) × Rising (parentsOf (nodesAt (now d) at n)) × Filled (nodesAt (now d) at n) (stepsIn p) n (now cells) ⌝ }
+    requires { ⌜ WellFormed p × (n ≤ mostNodes) × (at + 3 * n ≤ length (now d)) × Rising (parentsOf (nodesAt (now d) at n)) × Filled (nodesAt (now d) at n) (stepsIn p) n (now cells) ⌝ }
     ensures { λ r. ⌜ Filled (nodesAt (now (d .entry)) at n) (stepsIn p) 0 (now (cells .exit)) ⌝ }
 {
     let mut u = n;
@@ -140,7 +140,7 @@ fn at_top(cells: &[u8; CELLS], s: Step, k: usize) -> bool
 
 // Do all root steps hold below the top?
 fn all_at_top(cells: &[u8; CELLS], p: Pattern) -> bool
-    requires { ⌜ SoundPattern p × Whole (now cells) ⌝ }
+    requires { ⌜ WellFormed p × Whole (now cells) ⌝ }
     ensures { λ r. ⌜ r ≡ kidsHold (noted (now (cells .entry)) 0) 0 1 (stepsIn p) ⌝ }
 {
     let mut j = 0;
@@ -155,7 +155,7 @@ fn all_at_top(cells: &[u8; CELLS], p: Pattern) -> bool
 
 // Does the document whose n nodes stand in the bytes from a place on satisfy the pattern?
 pub fn matches(d: &[u8], at: usize, n: usize, p: Pattern) -> bool
-    requires { ⌜ SoundPattern p × (n ≤ mostNodes) × (at + 3 * n ≤ length (now d)) × Rising (parentsOf (nodesAt (now d) at n)) ⌝ }
+    requires { ⌜ WellFormed p × (n ≤ mostNodes) × (at + 3 * n ≤ length (now d)) × Rising (parentsOf (nodesAt (now d) at n)) ⌝ }
     ensures { λ r. ⌜ r ≡ satisfies (nodesAt (now (d .entry)) at n) (patternOf p) ⌝ }
 {
     let mut cells: [u8; CELLS] = [0; CELLS];
@@ -171,7 +171,7 @@ pub struct Tried {
 
 // A try: asks one pattern of one document, and adds one to the count.
 pub fn try_pattern(d: &[u8], at: usize, n: usize, p: Pattern, tried: usize) -> Tried
-    requires { ⌜ SoundPattern p × (n ≤ mostNodes) × (at + 3 * n ≤ length (now d)) × Rising (parentsOf (nodesAt (now d) at n)) × (tried < 2 ^ 32) ⌝ }
+    requires { ⌜ WellFormed p × (n ≤ mostNodes) × (at + 3 * n ≤ length (now d)) × Rising (parentsOf (nodesAt (now d) at n)) × (tried < 2 ^ 32) ⌝ }
     ensures { λ r. ⌜ (r .yes ≡ satisfies (nodesAt (now (d .entry)) at n) (patternOf p)) × (r .tried ≡ tried + 1) ⌝ }
 {
     let asked = tried + 1;

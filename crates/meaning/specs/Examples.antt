@@ -8,7 +8,7 @@ use lib.ListN.{replicate}
 use Rattle.base.specs.Choice.{pick}
 use Rattle.base.specs.Lists.{some, every, keep, total, without, numbersFrom}
 use Rattle.meaning.specs.Reader.{go-on, _>>=_, _>>_, give, repeat, unless, byte, bytes, number, end, numberOf}
-use Rattle.meaning.specs.Forest.{axisOf, axisNumber, isNear, Forest, none, step, size, childrenIn, forest, stepsFrom, stepsOf, parentIn, isChild, isBelowIn, isBelow, reaches}
+use Rattle.meaning.specs.Forest.{axisOf, axisNumber, isNear, Forest, none, step, size, childrenIn, forest, stepsFrom, stepsOf, parentIn, isChild, isBelowIn, isBelow, reaches, beside}
 use Rattle.meaning.specs.Sections.{sameLabel, label, labels, upFrom, pathAfter, mayHang, isNearRoot, nearRoot, aStep, steps, pattern, sheet, Node, nodeParent, aNode, nodes, document, entry, table}
 use Rattle.meaning.specs.Satisfying.{anyOrSame, parentsOf, labelIn, fitsBelow, holdBelow, satisfies}
 use Rattle.meaning.specs.Covering.{mayLie, finds, fitsAt, lays, covers}
@@ -21,7 +21,7 @@ use Rattle.meaning.specs.Written.{stepBytes, patternBytes}
 use Rattle.meaning.specs.Calls.{judged, fairTable, isSubscription, subscription, sheetNumber, documentNumber, tableNumber, matchesAnswer, withRoom, after, mergeWriting, mergeAnswer, labelNumber}
 use Rattle.meaning.specs.Given.{Given, refusal, gives, byNumber, RouteValues, tabledGiven}
 use Rattle.meaning.specs.Printing.{ascii}
-use Rattle.meaning.specs.RoseBench.{sheetR, slash, slashes, beside, a, b, c, star}
+use Rattle.meaning.specs.RoseBench.{sheetR, slash, slashes, a, b, c, star}
 use Rattle.meaning.specs.declared.Asked.{Asked}
 use Rattle.meaning.specs.declared.Asked.the-variants as asked
 use Rattle.meaning.specs.declared.Merged.{Merged}

@@ -34,6 +34,11 @@ unfoldable pub size : Forest → ℕ
 size none = 0
 size (step a l kids later) = suc (size kids + size later)
 
+-- two forests below the same parent, the second after the first
+unfoldable pub beside : Forest → Forest → Forest
+beside none g = g
+beside (step a l kids later) g = step a l kids (beside later g)
+
 -- the child steps of step p among the steps from number k on
 unfoldable pub childrenIn : ℕ → ℕ → List Step → Forest
 childrenIn p k [] = none

@@ -75,11 +75,6 @@ slash l kids = step near l kids none
 unfoldable pub slashes : ℕ → Forest → Forest
 slashes l kids = step far l kids none
 
--- branches in brackets: the second after the first
-unfoldable pub beside : Forest → Forest → Forest
-beside none g = g
-beside (step x l kids later) g = step x l kids (beside later g)
-
 -- labels, and any
 unfoldable pub a : ℕ
 a = 1

@@ -1,3 +1,3 @@
 pub mod Fitting
 pub mod Marks
-pub mod Bytes
+pub mod MemberBytes

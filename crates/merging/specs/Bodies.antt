@@ -13,7 +13,7 @@ use Rattle.shapes.specs.Shapes.{patternOf, stepsIn}
 use Rattle.shapes.specs.declared.Pattern.{Pattern}
 use Rattle.laws.specs.Children.{childrenOf}
 use Rattle.covering.specs.Questions.{childrenLie, liesAt}
-use Rattle.covering.specs.Notes.{PairOfSteps, Noted, cellOf, cell-filled}
+use Rattle.covering.specs.PairNotes.{PairOfSteps, Noted, cellOf, cell-filled}
 use Rattle.offering.specs.declared.Marked.{Marked}
 use Rattle.offering.specs.Branches.{joined-branches, buildingAt}
 use Rattle.offering.specs.Offers.{buildingOf, Built}

@@ -1,4 +1,4 @@
-pub mod Scanning
+pub mod PairWalk
 pub mod Bodies
 pub mod Walks
 pub mod Merges

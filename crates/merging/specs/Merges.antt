@@ -5,7 +5,7 @@ use Rattle.base.specs.Choice.{pick}
 use Rattle.meaning.specs.Forest.{stepsOf}
 use Rattle.meaning.specs.Covering.{covers}
 use Rattle.meaning.specs.Merging.{nothing, through, Merge, mergeWithin, merge}
-use Rattle.shapes.specs.Shapes.{patternOf, stepsIn, SoundPattern}
+use Rattle.shapes.specs.Shapes.{patternOf, stepsIn, WellFormed}
 use Rattle.shapes.specs.declared.Pattern.{Pattern}
 use Rattle.shapes.specs.Steps.{root-children}
 use Rattle.laws.specs.Children.{childrenOf}
@@ -18,11 +18,11 @@ use Rattle.offering.specs.Offers.{buildingOf, Built}
 pub record IsMerge (r : Marked) (m : Merge) : Type 0 where
   pub pattern : patternOf (r .pattern) ≡ m .pattern
   pub mark : r .clipped ≡ m .clipped
-  pub sound : SoundPattern (r .pattern)
+  pub sound : WellFormed (r .pattern)
 
 module _ (p q : Pattern) (first second : Bool) (said : first ≡ covers (patternOf p) (patternOf q)) where
   -- p covers q
-  pub merges-first : SoundPattern p → first ≡ true → IsMerge (record { pattern = p; clipped = false }) (merge (patternOf p) (patternOf q))
+  pub merges-first : WellFormed p → first ≡ true → IsMerge (record { pattern = p; clipped = false }) (merge (patternOf p) (patternOf q))
   unfolding merge
   merges-first sound t =
       let e = merge-first 16 (patternOf p) (patternOf q) (sym said ∙ t) in
@@ -30,7 +30,7 @@ module _ (p q : Pattern) (first second : Bool) (said : first ≡ covers (pattern
 
   module _ (un : first ≡ false) (said₂ : second ≡ covers (patternOf q) (patternOf p)) where
     -- q covers p
-    pub merges-second : SoundPattern q → second ≡ true → IsMerge (record { pattern = q; clipped = false }) (merge (patternOf p) (patternOf q))
+    pub merges-second : WellFormed q → second ≡ true → IsMerge (record { pattern = q; clipped = false }) (merge (patternOf p) (patternOf q))
     unfolding merge
     merges-second sound t =
         let e = merge-second 16 (patternOf p) (patternOf q) (sym said ∙ un) (sym said₂ ∙ t) in

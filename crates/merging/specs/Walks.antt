@@ -8,7 +8,7 @@ use Rattle.meaning.specs.Forest.{Forest, none}
 use Rattle.meaning.specs.Covering.{stepAt}
 use Rattle.meaning.specs.Merging.{Building, nothing, meet, meetAt, through}
 use Rattle.meaning.specs.declared.Step.{Step}
-use Rattle.shapes.specs.Shapes.{patternOf, stepsIn, SoundPattern}
+use Rattle.shapes.specs.Shapes.{patternOf, stepsIn, WellFormed}
 use Rattle.shapes.specs.declared.Pattern.{Pattern}
 use Rattle.shapes.specs.Steps.{stepIn}
 use Rattle.shapes.specs.Holding.{holds-none}
@@ -17,7 +17,7 @@ use Rattle.offering.specs.declared.Marked.{Marked}
 use Rattle.offering.specs.Branches.{branchesOf, buildingAt}
 use Rattle.offering.specs.Offers.{buildingOf, Built, bodyIn, IsBody}
 use Rattle.offering.specs.Candidates.{body-in}
-use Rattle.merging.specs.Scanning.{Meeting, nearChild, meetAll, through-across, restWalks, stepMakes, walk-starts, walk-step, walk-ends, walk-done}
+use Rattle.merging.specs.PairWalk.{Meeting, nearChild, meetAll, through-across, restWalks, stepMakes, walk-starts, walk-step, walk-ends, walk-done}
 use Rattle.merging.specs.Bodies.{bodyFor}
 
 -- what step v, near child or not, makes with a step w'
@@ -32,12 +32,12 @@ acrossOf own direct a v w b = meetAll own w direct (stepAt a v .label) (children
 pub record Walking (p : Pattern) (pair : Meeting) (v k own : ℕ) (b : Marked) (whole : Building) : Type 0 where
   pub from : v ≤ k
   pub upto : k ≤ p .count
-  pub sound : SoundPattern (b .pattern)
+  pub sound : WellFormed (b .pattern)
   pub few : own + b .pattern .count ≤ 16
   pub rest : restWalks pair (stepsIn p) v k (buildingOf b) ≡ whole
 
 -- ---- one law for each way through such a loop
-module _ {p : Pattern} {pair : Meeting} {v k own : ℕ} {b : Marked} {whole : Building} (sound : SoundPattern p) (i : Walking p pair v k own b whole) where
+module _ {p : Pattern} {pair : Meeting} {v k own : ℕ} {b : Marked} {whole : Building} (sound : WellFormed p) (i : Walking p pair v k own b whole) where
   -- a step below v
   pub walks-on : k < p .count → v ≤ stepIn p k .parent → (r : Marked) → Built own r (stepMakes pair p v k (buildingOf b)) → Walking p pair v (k + 1) own r whole
   walks-on h l r built = record {
@@ -58,7 +58,7 @@ module _ {p : Pattern} {pair : Meeting} {v k own : ℕ} {b : Marked} {whole : Bu
 
 -- ---- step v with the steps below w
 module _ (q : Pattern) (own : ℕ) (direct : Bool) (a : List Step) (v w : ℕ) where
-  pub across-starts : SoundPattern q → (b : Marked) → SoundPattern (b .pattern) → own + b .pattern .count ≤ 16 → w ≤ q .count
+  pub across-starts : WellFormed q → (b : Marked) → WellFormed (b .pattern) → own + b .pattern .count ≤ 16 → w ≤ q .count
       → Walking q (pairOf own direct a v) w w own b (acrossOf own direct a v (childrenOf (stepsIn q) w) (buildingOf b))
   unfolding pairOf acrossOf meetAll
   across-starts sound b built few h = record {
@@ -78,7 +78,7 @@ module _ (q : Pattern) (own : ℕ) (direct : Bool) (a : List Step) (v w : ℕ) w
 
 -- ---- the steps below v, each with all below w
 module _ (p : Pattern) (own : ℕ) (w : Forest) (v : ℕ) where
-  pub through-starts : SoundPattern p → (r : Pattern) → (patternOf r ≡ none) × SoundPattern r → own ≤ 1 → v ≤ p .count
+  pub through-starts : WellFormed p → (r : Pattern) → (patternOf r ≡ none) × WellFormed r → own ≤ 1 → v ≤ p .count
       → Walking p (meetAll own w) v v own (record { pattern = r; clipped = false }) (through 16 (childrenOf (stepsIn p) v) true own w nothing)
   unfolding buildingOf buildingAt branchesOf nothing
   through-starts sound r h l k =

@@ -18,10 +18,10 @@ ghost use mathlib.Core.Path.{_≡_};
 ghost use mathlib.Core.Bool.{true, _&&_};
 ghost use Rattle.meaning.specs.Numbers.{mostSteps};
 ghost use Rattle.meaning.specs.Merging.{nothing, commonLabel, through, merge};
-ghost use Rattle.shapes.specs.Shapes.{patternOf, stepsIn, SoundPattern};
+ghost use Rattle.shapes.specs.Shapes.{patternOf, stepsIn, WellFormed};
 ghost use Rattle.laws.specs.Children.{childrenOf};
 ghost use Rattle.offering.specs.Offers.{buildingOf, Built, IsBody};
-ghost use Rattle.merging.specs.Scanning.{nearChild};
+ghost use Rattle.merging.specs.PairWalk.{nearChild};
 ghost use Rattle.merging.specs.Bodies.{bodyFor, bodyAt, Known};
 ghost use Rattle.merging.specs.Walks.{acrossOf};
 ghost use Rattle.merging.specs.Merges.{IsMerge};
@@ -46,7 +46,7 @@ fn both(a: bool, b: bool) -> bool
 
 // The body of a step as it is.
 fn taken(p: Pattern, v: usize) -> Marked
-    requires { ⌜ SoundPattern p × (1 ≤ v) × (v ≤ p .count) ⌝ }
+    requires { ⌜ WellFormed p × (1 ≤ v) × (v ≤ p .count) ⌝ }
     ensures { λ r. ⌜ IsBody r (bodyAt (stepsIn p) v) ⌝ }
 {
     Marked {
@@ -106,7 +106,7 @@ fn across(
     there: &mut [u8; PAIRS],
     back: &mut [u8; PAIRS],
 ) -> Marked
-    requires { ⌜ Known p q (now memo) (now there) (now back) × (1 ≤ v) × (v ≤ p .count) × (w ≤ q .count) × SoundPattern (built .pattern) × (own + built .pattern .count ≤ mostSteps) ⌝ }
+    requires { ⌜ Known p q (now memo) (now there) (now back) × (1 ≤ v) × (v ≤ p .count) × (w ≤ q .count) × WellFormed (built .pattern) × (own + built .pattern .count ≤ mostSteps) ⌝ }
     ensures { λ r. ⌜ Built own r (acrossOf own direct (stepsIn p) v (childrenOf (stepsIn q) w) (buildingOf built)) × Known p q (now (memo .exit)) (now (there .exit)) (now (back .exit)) ⌝ }
 {
     let mut b = built;
@@ -174,7 +174,7 @@ fn new_body(
 
 // The merge of p with q.
 pub fn merge(p: Pattern, q: Pattern) -> Marked
-    requires { ⌜ SoundPattern p × SoundPattern q ⌝ }
+    requires { ⌜ WellFormed p × WellFormed q ⌝ }
     ensures { λ r. ⌜ IsMerge r (merge (patternOf p) (patternOf q)) ⌝ }
 {
     let mut there = [0; PAIRS];

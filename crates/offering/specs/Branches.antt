@@ -7,16 +7,16 @@ use native.Mathlib.Omega.{arith}
 use Rattle.base.specs.Choice.{pick}
 use Rattle.base.specs.Lists.{some, keep, total}
 use Rattle.base.specs.ListLaws.{some-same}
-use Rattle.meaning.specs.Forest.{Axis, near, far, Forest, none, step, size, stepsFrom, stepsOf}
+use Rattle.meaning.specs.Forest.{Axis, near, far, Forest, none, step, size, stepsFrom, stepsOf, beside}
 use Rattle.meaning.specs.Covering.{finds, fitsAt, lays, covers}
 use Rattle.meaning.specs.Merging.{Branch, alone, joined, branchSize, laidOn, staysBeside, Building}
 use Rattle.meaning.specs.declared.Step.{Step}
-use Rattle.shapes.specs.Shapes.{patternOf, stepsIn, SoundPattern}
+use Rattle.shapes.specs.Shapes.{patternOf, stepsIn, WellFormed}
 use Rattle.shapes.specs.declared.Pattern.{Pattern}
 use Rattle.shapes.specs.Steps.{root-children, count-size}
-use Rattle.shapes.specs.Holding.{Holds, Stands, stands}
+use Rattle.shapes.specs.Holding.{Holds, StandsFor, stands}
 use Rattle.laws.specs.Children.{childrenOf}
-use Rattle.laws.specs.Joining.{joined-size}
+use Rattle.laws.specs.JoinedBranches.{joined-size}
 
 -- the root branches of a forest, in their order
 unfoldable pub branchesOf : Forest → List Branch
@@ -34,11 +34,6 @@ pub branches-size : (f : Forest) → total branchSize (branchesOf f) ≡ size f
 branches-size f = sym (joined-size (branchesOf f)) ∙ ap size (joined-branches f)
 
 -- ---- one forest after another, below the same parent
-
--- the second forest after the first
-unfoldable pub beside : Forest → Forest → Forest
-beside none g = g
-beside (step a l kids later) g = step a l kids (beside later g)
 
 -- its branches are those of both
 pub branches-beside : (f g : Forest) → branchesOf (beside f g) ≡ branchesOf f ++ branchesOf g
@@ -80,15 +75,15 @@ steps-after f g ss n e h =
     rw (← e, m) (sym (steps-beside 0 1 f g))
 
 -- a pattern's steps put after those of another
-pub copied-beside : (r c t : Pattern) → SoundPattern r → Holds t (stepsIn r ++ stepsFrom 0 (suc (r .count)) (childrenOf (stepsIn c) 0))
-    → Stands t (beside (patternOf r) (patternOf c))
+pub copied-beside : (r c t : Pattern) → WellFormed r → Holds t (stepsIn r ++ stepsFrom 0 (suc (r .count)) (childrenOf (stepsIn c) 0))
+    → StandsFor t (beside (patternOf r) (patternOf c))
 copied-beside r c t sound h =
     let same : stepsIn r ++ stepsFrom 0 (suc (r .count)) (childrenOf (stepsIn c) 0) ≡ stepsOf (beside (patternOf r) (patternOf c)) =
     rw root-children (steps-after (patternOf r) (patternOf c) (stepsIn r) (r .count) (sound .written) (count-size r sound)) in
     stands t (beside (patternOf r) (patternOf c)) (rw same at h)
 
 -- so it has the steps of both
-pub count-beside : {r c t : Pattern} → SoundPattern r → SoundPattern c → Stands t (beside (patternOf r) (patternOf c)) → t .count ≡ r .count + c .count
+pub count-beside : {r c t : Pattern} → WellFormed r → WellFormed c → StandsFor t (beside (patternOf r) (patternOf c)) → t .count ≡ r .count + c .count
 count-beside {r} {c} {t} sr sc put =
     count-size t (put .sound) ∙ ap size (put .pattern) ∙ size-beside (patternOf r) (patternOf c) ∙ cc (count-size r sr, count-size c sc)
 
@@ -123,20 +118,20 @@ skipped c f =
     ∙ finds-some (c .axis) passes f ∙ sym (and-true (finds (c .axis) passes f))
 
 -- the root branches that can't be laid on c
-unfoldable pub staying : Forest → Forest → Forest
-staying c none = none
-staying c (step a l kids later) =
-    let others = staying c later in
+unfoldable pub stayingForest : Forest → Forest → Forest
+stayingForest c none = none
+stayingForest c (step a l kids later) =
+    let others = stayingForest c later in
     pick (covers (step a l kids none) c) others (step a l kids others)
 
 -- they are those that stay beside the candidate
-pub stay-kept : (c : Branch) (f : Forest) → branchesOf (staying (alone c) f) ≡ keep (staysBeside c) (branchesOf f)
-unfolding staying branchesOf keep staysBeside laidOn pick alone
+pub stay-kept : (c : Branch) (f : Forest) → branchesOf (stayingForest (alone c) f) ≡ keep (staysBeside c) (branchesOf f)
+unfolding stayingForest branchesOf keep staysBeside laidOn pick alone
 stay-kept c none = refl
 stay-kept c (step a l kids later) = go (covers (step a l kids none) (alone c)) (stay-kept c later)
   where
-    go : (b : Bool) → branchesOf (staying (alone c) later) ≡ keep (staysBeside c) (branchesOf later)
-        → branchesOf (pick b (staying (alone c) later) (step a l kids (staying (alone c) later)))
+    go : (b : Bool) → branchesOf (stayingForest (alone c) later) ≡ keep (staysBeside c) (branchesOf later)
+        → branchesOf (pick b (stayingForest (alone c) later) (step a l kids (stayingForest (alone c) later)))
         ≡ pick (not b) (record { axis = a; label = l; kids = kids } ∷ keep (staysBeside c) (branchesOf later)) (keep (staysBeside c) (branchesOf later))
     go true h = h
     go false h = ap {B = List Branch} (λ bs. record { axis = a; label = l; kids = kids } ∷ bs) h

@@ -11,7 +11,7 @@ use Rattle.meaning.specs.Merging.{Branch, alone, Body, offer, meet}
 use Rattle.shapes.specs.Shapes.{patternOf, stepsIn}
 use Rattle.shapes.specs.declared.Pattern.{Pattern}
 use Rattle.shapes.specs.Steps.{count-size}
-use Rattle.shapes.specs.Holding.{Stands}
+use Rattle.shapes.specs.Holding.{StandsFor}
 use Rattle.laws.specs.Outside.{Outside, read-back}
 use Rattle.laws.specs.Children.{childrenFrom, childrenOf}
 use Rattle.laws.specs.Offering.{candidateOf}
@@ -48,8 +48,8 @@ module _ (l : ℕ) (kids : Forest) where
 
 -- the first step of a body with what is below it, and another axis
 pub candidate : (m : Marked) (body : Body) → IsBody m body → (c : Pattern) (bothNear : Bool) (x : ℕ) → axisOf x ≡ pick bothNear near far
-    → Stands c (step (axisOf x) (stepAt (stepsIn (m .pattern)) 1 .label) (childrenOf (stepsIn (m .pattern)) 1) none)
-    → Stands c (alone (candidateOf bothNear body))
+    → StandsFor c (step (axisOf x) (stepAt (stepsIn (m .pattern)) 1 .label) (childrenOf (stepsIn (m .pattern)) 1) none)
+    → StandsFor c (alone (candidateOf bothNear body))
 unfolding alone
 candidate m body h c bothNear x e s =
     let steps : stepsIn (m .pattern) ≡ stepsOf (step near (body .label) (body .kids) none) =
@@ -57,7 +57,7 @@ candidate m body h c bothNear x e s =
     rw (e, steps, first-label (body .label) (body .kids), first-kids (body .label) (body .kids)) at s
 
 -- it is the only root branch of its pattern
-pub only-branch : (c : Pattern) (b : Branch) → Stands c (alone b) → IsBranch c
+pub only-branch : (c : Pattern) (b : Branch) → StandsFor c (alone b) → IsBranch c
 unfolding IsBranch firstBranch alone
 only-branch c b s = (s .sound, rw (s .pattern))
 
@@ -67,7 +67,7 @@ unfolding firstBranch alone
 first-alone x = refl
 
 -- what is built after the candidate is offered
-pub met : (own : ℕ) (b m r : Marked) (bothNear marked : Bool) (c : Pattern) → Stands c (alone (candidateOf bothNear (bodyIn m)))
+pub met : (own : ℕ) (b m r : Marked) (bothNear marked : Bool) (c : Pattern) → StandsFor c (alone (candidateOf bothNear (bodyIn m)))
     → marked ≡ (b .clipped || m .clipped)
     → Built own r (offer 16 own (firstBranch (patternOf c)) (buildingOf (record { pattern = b .pattern; clipped = marked })))
     → Built own r (meet 16 own bothNear (bodyIn m) (buildingOf b))

@@ -10,15 +10,15 @@ use Rattle.base.specs.Choice.{pick}
 use Rattle.meaning.specs.Forest.{axisOf, Forest, none, step, size, stepsFrom, stepsOf}
 use Rattle.meaning.specs.declared.Step.{Step}
 use Rattle.shapes.specs.Shapes.{stepsIn}
-use Rattle.shapes.specs.Holding.{Holds, Stands, stands}
+use Rattle.shapes.specs.Holding.{Holds, StandsFor, stands}
 use Rattle.shapes.specs.declared.Pattern.{Pattern}
 use Rattle.laws.specs.Bridge.{axis-read}
-use Rattle.laws.specs.Outside.{written}
+use Rattle.laws.specs.Outside.{writtenStep}
 use Rattle.covering.specs.OverBlock.{overForest}
 
 -- one step with a forest written below it
 pub one-branch : (r t : Pattern) (axis label : ℕ) (kids : Forest) → axis ≤ 1 → Holds r (record { parent = 0; axis = axis; label = label } ∷ [])
-    → Holds t (stepsIn r ++ stepsFrom 1 (suc (r .count)) kids) → Stands t (step (axisOf axis) label kids none)
+    → Holds t (stepsIn r ++ stepsFrom 1 (suc (r .count)) kids) → StandsFor t (step (axisOf axis) label kids none)
 unfolding stepsOf stepsFrom
 one-branch r t axis label kids h one whole =
     let same : stepsIn r ++ stepsFrom 1 (suc (r .count)) kids ≡ stepsOf (step (axisOf axis) label kids none) =
@@ -46,7 +46,7 @@ module _ (v n top : ℕ) where
   -- a forest written below p is moved to where p stands now
   moved-forest : (p k : ℕ) (f : Forest) (rest : List Step) → v ≤ p → p < k
       → overForest (copyStep v n top) p k f rest ≡ stepsFrom (newParent p) (k - v + n) f ++ rest
-  unfolding overForest copyStep movedStep stepsFrom newParent pick written
+  unfolding overForest copyStep movedStep stepsFrom newParent pick writtenStep
   moved-forest p k none rest l h = refl
   moved-forest p k (step a m kids later) rest l h =
       let inside = moved-forest k (suc k) kids (overForest (copyStep v n top) p (suc k + size kids) later rest) (omega arith) (omega arith) in

@@ -1,5 +1,5 @@
 pub mod Copying
-pub mod Turns
+pub mod CopyingLoop
 pub mod Branches
 pub mod Staying
 pub mod Offers

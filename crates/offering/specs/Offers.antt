@@ -7,16 +7,16 @@ use native.Mathlib.Omega.{arith}
 use borrow.Author.Tests.{le-leb, lt-leb}
 use Rattle.base.specs.Choice.{pick}
 use Rattle.base.specs.Lists.{keep, total}
-use Rattle.meaning.specs.Forest.{near, Forest, none, step, size}
+use Rattle.meaning.specs.Forest.{near, Forest, none, step, size, beside}
 use Rattle.meaning.specs.Covering.{covers}
 use Rattle.meaning.specs.Merging.{Branch, alone, branchSize, staysBeside, Building, Body, offer}
-use Rattle.shapes.specs.Shapes.{patternOf, SoundPattern}
+use Rattle.shapes.specs.Shapes.{patternOf, WellFormed}
 use Rattle.shapes.specs.declared.Pattern.{Pattern}
 use Rattle.shapes.specs.Steps.{count-size}
-use Rattle.shapes.specs.Holding.{Stands}
+use Rattle.shapes.specs.Holding.{StandsFor}
 use Rattle.offering.specs.declared.Marked.{Marked}
-use Rattle.offering.specs.Branches.{branchesOf, branches-size, beside, branches-beside, count-beside}
-use Rattle.offering.specs.Branches.{skipped, staying, stay-kept, firstBranch, buildingAt}
+use Rattle.offering.specs.Branches.{branchesOf, branches-size, branches-beside, count-beside}
+use Rattle.offering.specs.Branches.{skipped, stayingForest, stay-kept, firstBranch, buildingAt}
 
 -- what is being built: the kept candidates joined, and the mark
 unfoldable pub buildingOf : Marked → Building
@@ -24,13 +24,13 @@ buildingOf m = buildingAt (patternOf (m .pattern)) (m .clipped)
 
 -- a value that is so, within the limit
 pub record Built (own : ℕ) (m : Marked) (b : Building) : Type 0 where
-  pub sound : SoundPattern (m .pattern)
+  pub sound : WellFormed (m .pattern)
   pub few : own + m .pattern .count ≤ 16
   pub is : buildingOf m ≡ b
 
 -- the only root branch of a pattern
 unfoldable pub IsBranch : Pattern → Type 0
-IsBranch c = SoundPattern c × (patternOf c ≡ alone (firstBranch (patternOf c)))
+IsBranch c = WellFormed c × (patternOf c ≡ alone (firstBranch (patternOf c)))
 
 module _ (own : ℕ) (c : Branch) (f : Forest) (m : Bool) where
   -- it can be laid on a kept one
@@ -44,21 +44,21 @@ module _ (own : ℕ) (c : Branch) (f : Forest) (m : Bool) where
   size-alone = omega arith
 
   -- the size of what stays
-  stay-size : total branchSize (keep (staysBeside c) (branchesOf f)) ≡ size (staying (alone c) f)
-  stay-size = ap (total branchSize) (sym (stay-kept c f)) ∙ branches-size (staying (alone c) f)
+  stay-size : total branchSize (keep (staysBeside c) (branchesOf f)) ≡ size (stayingForest (alone c) f)
+  stay-size = ap (total branchSize) (sym (stay-kept c f)) ∙ branches-size (stayingForest (alone c) f)
 
   -- there is room after the drops
-  puts : covers (alone c) f ≡ false → own + size (staying (alone c) f) + size (alone c) ≤ 16
-      → buildingAt (beside (staying (alone c) f) (alone c)) m ≡ offer 16 own c (buildingAt f m)
+  puts : covers (alone c) f ≡ false → own + size (stayingForest (alone c) f) + size (alone c) ≤ 16
+      → buildingAt (beside (stayingForest (alone c) f) (alone c)) m ≡ offer 16 own c (buildingAt f m)
   unfolding offer buildingAt pick branchesOf alone
   puts e h =
       let room : own + total branchSize (keep (staysBeside c) (branchesOf f)) + branchSize c ≤ 16 = omega (arith, stay-size, size-alone) in
-      let kept : branchesOf (beside (staying (alone c) f) (alone c)) ≡ keep (staysBeside c) (branchesOf f) ++ (c ∷ []) =
-      branches-beside (staying (alone c) f) (alone c) ∙ ap (λ (l : List Branch). l ++ (c ∷ [])) (stay-kept c f) in
+      let kept : branchesOf (beside (stayingForest (alone c) f) (alone c)) ≡ keep (staysBeside c) (branchesOf f) ++ (c ∷ []) =
+      branches-beside (stayingForest (alone c) f) (alone c) ∙ ap (λ (l : List Branch). l ++ (c ∷ [])) (stay-kept c f) in
       rw (skipped c f, e, le-leb _ _ room, kept)
 
   -- there is none
-  leaves : covers (alone c) f ≡ false → 16 < own + size (staying (alone c) f) + size (alone c)
+  leaves : covers (alone c) f ≡ false → 16 < own + size (stayingForest (alone c) f) + size (alone c)
       → buildingAt f true ≡ offer 16 own c (buildingAt f m)
   unfolding offer buildingAt pick
   leaves e h =
@@ -66,7 +66,7 @@ module _ (own : ℕ) (c : Branch) (f : Forest) (m : Bool) where
       rw (skipped c f, e, lt-leb _ _ full)
 
 -- ---- the same by value
-module _ (own : ℕ) (b : Marked) (c : Pattern) (sound : SoundPattern (b .pattern)) (few : own + b .pattern .count ≤ 16) (branch : IsBranch c) (laid : Bool)
+module _ (own : ℕ) (b : Marked) (c : Pattern) (sound : WellFormed (b .pattern)) (few : own + b .pattern .count ≤ 16) (branch : IsBranch c) (laid : Bool)
     (said : laid ≡ covers (patternOf c) (patternOf (b .pattern))) where
   -- what was asked of the candidate
   said-of : covers (alone (firstBranch (patternOf c))) (patternOf (b .pattern)) ≡ laid
@@ -78,28 +78,28 @@ module _ (own : ℕ) (b : Marked) (c : Pattern) (sound : SoundPattern (b .patter
   unfolding buildingOf
   skips-it t = record { sound = sound; few = few; is = skips own (firstBranch (patternOf c)) (patternOf (b .pattern)) (b .clipped) (said-of ∙ t) }
 
-  module _ (stay : Pattern) (stood : Stands stay (staying (patternOf c) (patternOf (b .pattern)))) where
+  module _ (stay : Pattern) (stood : StandsFor stay (stayingForest (patternOf c) (patternOf (b .pattern)))) where
     -- the size that is tested
-    sizes : own + size (staying (alone (firstBranch (patternOf c))) (patternOf (b .pattern))) + size (alone (firstBranch (patternOf c)))
+    sizes : own + size (stayingForest (alone (firstBranch (patternOf c))) (patternOf (b .pattern))) + size (alone (firstBranch (patternOf c)))
         ≡ own + stay .count + c .count
     unfolding IsBranch
     sizes =
-        let first : size (staying (alone (firstBranch (patternOf c))) (patternOf (b .pattern))) ≡ stay .count =
-        ap (λ (g : Forest). size (staying g (patternOf (b .pattern)))) (sym (branch .1)) ∙ ap size (sym (stood .pattern))
+        let first : size (stayingForest (alone (firstBranch (patternOf c))) (patternOf (b .pattern))) ≡ stay .count =
+        ap (λ (g : Forest). size (stayingForest g (patternOf (b .pattern)))) (sym (branch .1)) ∙ ap size (sym (stood .pattern))
         ∙ sym (count-size stay (stood .sound)) in
         let second : size (alone (firstBranch (patternOf c))) ≡ c .count = ap size (sym (branch .1)) ∙ sym (count-size c (branch .0)) in
         omega arith
 
     -- it is put
-    pub puts-it : laid ≡ false → own + stay .count + c .count ≤ 16 → (t : Pattern) → Stands t (beside (patternOf stay) (patternOf c))
+    pub puts-it : laid ≡ false → own + stay .count + c .count ≤ 16 → (t : Pattern) → StandsFor t (beside (patternOf stay) (patternOf c))
         → Built own (record { pattern = t; clipped = b .clipped }) (offer 16 own (firstBranch (patternOf c)) (buildingOf b))
     unfolding buildingOf IsBranch
     puts-it u room t put =
         let g = alone (firstBranch (patternOf c)) in
         let two = count-beside (stood .sound) (branch .0) put in
-        let same : patternOf t ≡ beside (staying g (patternOf (b .pattern))) g =
+        let same : patternOf t ≡ beside (stayingForest g (patternOf (b .pattern))) g =
         put .pattern ∙ ap (λ (h : Forest). beside h (patternOf c)) (stood .pattern)
-        ∙ ap (λ (h : Forest). beside (staying h (patternOf (b .pattern))) h) (branch .1) in
+        ∙ ap (λ (h : Forest). beside (stayingForest h (patternOf (b .pattern))) h) (branch .1) in
         let n = sizes in
         record {
           sound = put .sound;
@@ -124,5 +124,5 @@ bodyIn m = record { label = firstBranch (patternOf (m .pattern)) .label; kids = 
 
 -- a body by value: a near step with what is below it, and its mark
 pub record IsBody (m : Marked) (body : Body) : Type 0 where
-  pub stands : Stands (m .pattern) (step near (body .label) (body .kids) none)
+  pub stands : StandsFor (m .pattern) (step near (body .label) (body .kids) none)
   pub mark : m .clipped ≡ body .clipped

@@ -9,24 +9,24 @@ use native.Mathlib.Numerals.{add-one}
 use lib.ListN.{length, drop, length-append, length-drop}
 use lib.Seq.{drop-drop, drop-at}
 use Rattle.base.specs.Choice.{pick}
-use Rattle.meaning.specs.Forest.{axisOf, axisNumber, Forest, none, step, size, stepsFrom, stepsOf, childrenIn}
+use Rattle.meaning.specs.Forest.{axisOf, axisNumber, Forest, none, step, size, stepsFrom, stepsOf, childrenIn, beside}
 use Rattle.meaning.specs.Covering.{stepAt, covers}
 use Rattle.meaning.specs.declared.Step.{Step}
-use Rattle.shapes.specs.Shapes.{patternOf, stepsIn, SoundPattern}
+use Rattle.shapes.specs.Shapes.{patternOf, stepsIn, WellFormed}
 use Rattle.shapes.specs.declared.Pattern.{Pattern}
 use Rattle.shapes.specs.Steps.{stepIn, length-steps, count-size, step-at, steps-from, steps-end}
-use Rattle.shapes.specs.Holding.{Stands}
+use Rattle.shapes.specs.Holding.{StandsFor}
 use Rattle.laws.specs.Bridge.{length-stepsFrom, axis-written, axis-low}
 use Rattle.laws.specs.Outside.{read-back, outside-written}
 use Rattle.laws.specs.Children.{childrenFrom, childrenOf}
-use Rattle.offering.specs.Branches.{beside, beside-none, beside-beside, count-beside, staying}
+use Rattle.offering.specs.Branches.{beside-none, beside-beside, count-beside, stayingForest}
 
 -- the branch that begins at place k of the steps, by its step's number k + 1
 unfoldable pub branchAt : Pattern → ℕ → Forest
 branchAt p k = step (axisOf (stepIn p k .axis)) (stepAt (stepsIn p) (k + 1) .label) (childrenOf (stepsIn p) (k + 1)) none
 
 -- where a branch begins: its size, and what is after it
-pub record Turn (p : Pattern) (k : ℕ) (rest : Forest) : Type 0 where
+pub record BranchTurn (p : Pattern) (k : ℕ) (rest : Forest) : Type 0 where
   pub later : Forest
   pub first : rest ≡ beside (branchAt p k) later
   pub axis : stepIn p k .axis ≤ 1
@@ -34,7 +34,7 @@ pub record Turn (p : Pattern) (k : ℕ) (rest : Forest) : Type 0 where
   pub next : drop (k + size (branchAt p k)) (stepsIn p) ≡ stepsFrom 0 (suc (k + size (branchAt p k))) later
 
 -- every turn begins with a branch
-pub turn : (p : Pattern) → SoundPattern p → (k : ℕ) → k < p .count → (rest : Forest) → drop k (stepsIn p) ≡ stepsFrom 0 (suc k) rest → Turn p k rest
+pub turn : (p : Pattern) → WellFormed p → (k : ℕ) → k < p .count → (rest : Forest) → drop k (stepsIn p) ≡ stepsFrom 0 (suc k) rest → BranchTurn p k rest
 unfolding stepsFrom size branchAt beside childrenOf childrenFrom
 turn p sound k h none e =
     let z : _≡_ {A = List Step} (stepIn p k ∷ drop (suc k) (stepsIn p)) [] = sym (steps-from p sound k h) ∙ e in
@@ -72,24 +72,24 @@ turn p sound k h (step a l kids later) e =
 -- ---- the loop
 
 -- what stays so far, and what is to be asked of the branches from place k on
-pub record Left (p : Pattern) (c : Forest) (k : ℕ) (r : Pattern) : Type 0 where
-  pub given : SoundPattern p
+pub record LeftToAsk (p : Pattern) (c : Forest) (k : ℕ) (r : Pattern) : Type 0 where
+  pub given : WellFormed p
   pub rest : Forest
   pub begins : drop k (stepsIn p) ≡ stepsFrom 0 (suc k) rest
-  pub sound : SoundPattern r
+  pub sound : WellFormed r
   pub few : r .count ≤ k
   pub within : k ≤ p .count
-  pub whole : beside (patternOf r) (staying c rest) ≡ staying c (patternOf p)
+  pub whole : beside (patternOf r) (stayingForest c rest) ≡ stayingForest c (patternOf p)
 
 -- a branch goes or stays
-goes : (c : Forest) (p : Pattern) (k : ℕ) (later : Forest) → covers (branchAt p k) c ≡ true → staying c (beside (branchAt p k) later) ≡ staying c later
-unfolding staying beside branchAt pick
+goes : (c : Forest) (p : Pattern) (k : ℕ) (later : Forest) → covers (branchAt p k) c ≡ true → stayingForest c (beside (branchAt p k) later) ≡ stayingForest c later
+unfolding stayingForest beside branchAt pick
 goes c p k later e = rw e
 
 -- and one that stays is first of what stays
 remains : (c : Forest) (p : Pattern) (k : ℕ) (later : Forest) → covers (branchAt p k) c ≡ false
-    → staying c (beside (branchAt p k) later) ≡ beside (branchAt p k) (staying c later)
-unfolding staying beside branchAt pick
+    → stayingForest c (beside (branchAt p k) later) ≡ beside (branchAt p k) (stayingForest c later)
+unfolding stayingForest beside branchAt pick
 remains c p k later e = rw e
 
 -- no steps are of no forest but the empty one
@@ -99,7 +99,7 @@ no-steps k none e = refl
 no-steps k (step a l kids later) e = absurd (let y : _≡_ {A = ℕ} 0 1 = cc in omega arith)
 
 -- at the start nothing is asked
-pub left-starts : (p : Pattern) (c : Forest) → SoundPattern p → (r : Pattern) → (patternOf r ≡ none) × SoundPattern r → Left p c 0 r
+pub left-starts : (p : Pattern) (c : Forest) → WellFormed p → (r : Pattern) → (patternOf r ≡ none) × WellFormed r → LeftToAsk p c 0 r
 unfolding size stepsOf beside
 left-starts p c given r h =
     let none-yet : r .count ≡ 0 = count-size r (h .1) ∙ ap size (h .0) in
@@ -113,20 +113,20 @@ left-starts p c given r h =
       whole = rw (h .0);
     }
 
-module _ {p : Pattern} {c : Forest} {k : ℕ} {r : Pattern} (left : Left p c k r) where
+module _ {p : Pattern} {c : Forest} {k : ℕ} {r : Pattern} (left : LeftToAsk p c k r) where
   -- no branch is left
-  pub left-done : p .count ≤ k → Stands r (staying c (patternOf p))
-  unfolding staying
+  pub left-done : p .count ≤ k → StandsFor r (stayingForest c (patternOf p))
+  unfolding stayingForest
   left-done h =
       let nothing-left : left .rest ≡ none = no-steps (suc k) (left .rest) (sym (left .begins) ∙ steps-end p (left .given) k h) in
       record { pattern = rw (nothing-left, beside-none) at (left .whole); sound = left .sound }
 
   module _ (more : k < p .count) where
     -- a branch begins here
-    pub next-turn : Turn p k (left .rest)
+    pub next-turn : BranchTurn p k (left .rest)
     next-turn = turn p (left .given) k more (left .rest) (left .begins)
 
-    module _ {b : Pattern} (is : Stands b (branchAt p k)) where
+    module _ {b : Pattern} (is : StandsFor b (branchAt p k)) where
       -- its size
       size-is : size (branchAt p k) ≡ b .count
       size-is = sym (count-size b (is .sound) ∙ ap size (is .pattern))
@@ -137,7 +137,7 @@ module _ {p : Pattern} {c : Forest} {k : ℕ} {r : Pattern} (left : Left p c k r
       branch-fits = let n = size-is in let w = next-turn .within in (omega arith, omega arith)
 
       -- it can be laid on c
-      pub left-goes : {laid : Bool} → laid ≡ covers (patternOf b) c → laid ≡ true → Left p c (k + b .count) r
+      pub left-goes : {laid : Bool} → laid ≡ covers (patternOf b) c → laid ≡ true → LeftToAsk p c (k + b .count) r
       left-goes e t =
           let o = next-turn in
           let yes : covers (branchAt p k) c ≡ true = rw (is .pattern) at (sym e ∙ t) in
@@ -153,12 +153,12 @@ module _ {p : Pattern} {c : Forest} {k : ℕ} {r : Pattern} (left : Left p c k r
 
       -- it can't be, and is put last
       pub left-remains : {laid : Bool} → laid ≡ covers (patternOf b) c → laid ≡ false
-          → (t : Pattern) → Stands t (beside (patternOf r) (patternOf b)) → Left p c (k + b .count) t
+          → (t : Pattern) → StandsFor t (beside (patternOf r) (patternOf b)) → LeftToAsk p c (k + b .count) t
       left-remains e un t put =
           let o = next-turn in
           let not-laid : covers (branchAt p k) c ≡ false = rw (is .pattern) at (sym e ∙ un) in
           let two = count-beside (left .sound) (is .sound) put in
-          let last : beside (patternOf r) (beside (branchAt p k) (staying c (o .later))) ≡ staying c (patternOf p) =
+          let last : beside (patternOf r) (beside (branchAt p k) (stayingForest c (o .later))) ≡ stayingForest c (patternOf p) =
           rw (o .first, remains c p k (o .later) not-laid) at (left .whole) in
           record {
             given = left .given;

@@ -14,11 +14,11 @@ ghost use Rattle.meaning.specs.Numbers.{mostSteps};
 ghost use Rattle.meaning.specs.Forest.{near, far, axisOf, none, step, stepsFrom};
 ghost use Rattle.meaning.specs.Covering.{stepAt};
 ghost use Rattle.meaning.specs.Merging.{offer, meet};
-ghost use Rattle.shapes.specs.Shapes.{patternOf, stepsIn, SoundPattern};
-ghost use Rattle.shapes.specs.Holding.{Holds, Stands};
+ghost use Rattle.shapes.specs.Shapes.{patternOf, stepsIn, WellFormed};
+ghost use Rattle.shapes.specs.Holding.{Holds, StandsFor};
 ghost use Rattle.laws.specs.Children.{childrenOf};
 ghost use Rattle.offering.specs.Copying.{movedStep};
-ghost use Rattle.offering.specs.Branches.{staying, firstBranch};
+ghost use Rattle.offering.specs.Branches.{stayingForest, firstBranch};
 ghost use Rattle.offering.specs.Offers.{buildingOf, Built, IsBranch, bodyIn, IsBody};
 
 // A merge: the pattern, and whether a candidate was left out. So too what is being built at a pair, with its kept candidates
@@ -65,7 +65,7 @@ fn moved(s: Step, v: usize, n: usize, top: u8) -> Step
 
 // The steps below step v of p, put after the steps of r, the children of v hanging on `top`.
 fn copied(r: Pattern, p: Pattern, v: usize, top: u8) -> Pattern
-    requires { ⌜ SoundPattern p × (length (r .steps) ≡ mostSteps) × (v ≤ p .count) × (r .count + (p .count - v) ≤ mostSteps) ⌝ }
+    requires { ⌜ WellFormed p × (length (r .steps) ≡ mostSteps) × (v ≤ p .count) × (r .count + (p .count - v) ≤ mostSteps) ⌝ }
     ensures { λ t. ⌜ Holds t (stepsIn r ++ stepsFrom top (suc (r .count)) (childrenOf (stepsIn p) v)) ⌝ }
 {
     let n = r.count;
@@ -86,8 +86,8 @@ fn copied(r: Pattern, p: Pattern, v: usize, top: u8) -> Pattern
 
 // Step v of p with all that is below it, as a pattern of its own.
 pub fn branch(p: Pattern, v: usize, axis: u8) -> Pattern
-    requires { ⌜ SoundPattern p × (1 ≤ v) × (v ≤ p .count) × (axis ≤ 1) ⌝ }
-    ensures { λ r. ⌜ Stands r (step (axisOf axis) (stepAt (stepsIn p) v .label) (childrenOf (stepsIn p) v) none) ⌝ }
+    requires { ⌜ WellFormed p × (1 ≤ v) × (v ≤ p .count) × (axis ≤ 1) ⌝ }
+    ensures { λ r. ⌜ StandsFor r (step (axisOf axis) (stepAt (stepsIn p) v .label) (childrenOf (stepsIn p) v) none) ⌝ }
 {
     let s = p.steps[v - 1];
     copied(one(axis, s.label), p, v, 1)
@@ -95,8 +95,8 @@ pub fn branch(p: Pattern, v: usize, axis: u8) -> Pattern
 
 // The root branches that can't be laid on c.
 fn stays(kept: Pattern, c: Pattern) -> Pattern
-    requires { ⌜ SoundPattern kept × SoundPattern c ⌝ }
-    ensures { λ r. ⌜ Stands r (staying (patternOf c) (patternOf kept)) ⌝ }
+    requires { ⌜ WellFormed kept × WellFormed c ⌝ }
+    ensures { λ r. ⌜ StandsFor r (stayingForest (patternOf c) (patternOf kept)) ⌝ }
 {
     let mut r = no_steps();
     let mut k = 0;
@@ -114,7 +114,7 @@ fn stays(kept: Pattern, c: Pattern) -> Pattern
 // One candidate: skipped if it can be laid on a kept one; otherwise put last, without the kept ones that can be laid on it,
 // or left out where there is no room even so.
 fn offer(b: Marked, c: Pattern, own: usize) -> Marked
-    requires { ⌜ SoundPattern (b .pattern) × (own + b .pattern .count ≤ mostSteps) × IsBranch c ⌝ }
+    requires { ⌜ WellFormed (b .pattern) × (own + b .pattern .count ≤ mostSteps) × IsBranch c ⌝ }
     ensures { λ r. ⌜ Built own r (offer mostSteps own (firstBranch (patternOf c)) (buildingOf b)) ⌝ }
 {
     let kept = b.pattern;
@@ -151,7 +151,7 @@ fn either(a: bool, b: bool) -> bool
 
 // The candidate of a pair, by its body, is offered.
 pub fn meet(b: Marked, body: Marked, both: bool, own: usize) -> Marked
-    requires { ⌜ SoundPattern (b .pattern) × (own + b .pattern .count ≤ mostSteps) × IsBody body (bodyIn body) ⌝ }
+    requires { ⌜ WellFormed (b .pattern) × (own + b .pattern .count ≤ mostSteps) × IsBody body (bodyIn body) ⌝ }
     ensures { λ r. ⌜ Built own r (meet mostSteps own both (bodyIn body) (buildingOf b)) ⌝ }
 {
     let so_far = b.pattern;
@@ -170,7 +170,7 @@ pub fn meet(b: Marked, body: Marked, both: bool, own: usize) -> Marked
 
 // The body with a label and the children that were built.
 pub fn made(label: u8, built: Marked) -> Marked
-    requires { ⌜ SoundPattern (built .pattern) × (1 + built .pattern .count ≤ mostSteps) ⌝ }
+    requires { ⌜ WellFormed (built .pattern) × (1 + built .pattern .count ≤ mostSteps) ⌝ }
     ensures { λ r. ⌜ IsBody r (record { label = label; kids = patternOf (built .pattern); clipped = built .clipped }) ⌝ }
 {
     let kept = built.pattern;

@@ -13,10 +13,10 @@ use lib.Seq.{getD-set-same, getD-set-other}
 use Rattle.meaning.specs.Forest.{near, none, step, stepsOf}
 use Rattle.meaning.specs.Merging.{Body}
 use Rattle.meaning.specs.declared.Step.{Step}
-use Rattle.shapes.specs.Shapes.{stepsIn, patternOf, SoundPattern}
+use Rattle.shapes.specs.Shapes.{stepsIn, patternOf, WellFormed}
 use Rattle.shapes.specs.declared.Pattern.{Pattern}
 use Rattle.shapes.specs.Steps.{stepIn, steps-from, steps-end}
-use Rattle.shapes.specs.Holding.{Holds, stands, holding, holds-none, after, one-more}
+use Rattle.shapes.specs.Holding.{Holds, stands, holding, holds-none, stepAfter, one-more}
 use Rattle.offering.specs.declared.Marked.{Marked}
 use Rattle.offering.specs.Offers.{IsBody}
 
@@ -55,7 +55,7 @@ pub record Unpacking (bs : List ℕ) (n : ℕ) (p : Pattern) (k : ℕ) : Type 0 
   pub rest : withPacked (stepsIn p) bs k ≡ packed bs
 
 -- at the start nothing is read
-pub unpack-starts : (bs : List ℕ) (p : Pattern) → (patternOf p ≡ none) × SoundPattern p → getD bs 0 0 ≤ 16 → Unpacking bs (getD bs 0 0) p 0
+pub unpack-starts : (bs : List ℕ) (p : Pattern) → (patternOf p ≡ none) × WellFormed p → getD bs 0 0 ≤ 16 → Unpacking bs (getD bs 0 0) p 0
 unfolding withPacked packed
 unpack-starts bs p empty few =
     let no-step = holds-none p empty in
@@ -71,7 +71,7 @@ unpack-starts bs p empty few =
 module _ {bs : List ℕ} {n : ℕ} {p : Pattern} {k : ℕ} (i : Unpacking bs n p k) where
   -- one step is read
   pub unpack-step : k < n → (t : Pattern) → t .count ≡ k + 1 → t .steps ≡ set (p .steps) k (stepOf bs k) → Unpacking bs n t (k + 1)
-  unfolding withPacked packedFrom after
+  unfolding withPacked packedFrom stepAfter
   unpack-step h t counted put =
       let more = one-more p (stepOf bs k) t (omega arith) (i .full) (omega arith) (rw (i .number) put) in
       let left : getD bs 0 0 - k ≡ suc (getD bs 0 0 - suc k) = omega arith in
@@ -99,7 +99,7 @@ unpacked bs body m h p e = record { stands = stands (m .pattern) _ (rw (h .steps
 -- ---- writing them
 
 -- the first k steps are written
-pub record Written (p : Pattern) (clipped : Bool) (bs : List ℕ) (k : ℕ) : Type 0 where
+pub record WrittenSteps (p : Pattern) (clipped : Bool) (bs : List ℕ) (k : ℕ) : Type 0 where
   pub full : length bs ≡ 50
   pub count : getD bs 0 0 ≡ p .count
   pub mark : eqb (getD bs 1 0) 1 ≡ clipped
@@ -144,9 +144,9 @@ module _ (bs : List ℕ) (k : ℕ) (s : Step) (full : length bs ≡ 50) (room : 
       let la = set-elsewhere (4 + 3 * j) (λ e. omega arith) (λ e. omega arith) (λ e. omega arith) in
       λ i. record { parent = pa i; axis = ax i; label = la i }
 
-module _ (p : Pattern) (sound : SoundPattern p) (clipped : Bool) where
+module _ (p : Pattern) (sound : WellFormed p) (clipped : Bool) where
   -- no step is written yet
-  pub written-starts : (bs : List ℕ) (mark : ℕ) → length bs ≡ 50 → eqb mark 1 ≡ clipped → Written p clipped (set (set bs 0 (p .count)) 1 mark) 0
+  pub written-starts : (bs : List ℕ) (mark : ℕ) → length bs ≡ 50 → eqb mark 1 ≡ clipped → WrittenSteps p clipped (set (set bs 0 (p .count)) 1 mark) 0
   written-starts bs mark full e =
       let b1 = set bs 0 (p .count) in
       let l1 : length b1 ≡ 50 = length-set bs 0 (p .count) ∙ full in
@@ -158,7 +158,7 @@ module _ (p : Pattern) (sound : SoundPattern p) (clipped : Bool) where
       }
 
   -- one step more
-  pub written-step : (bs : List ℕ) (k : ℕ) → k < p .count → Written p clipped bs k → Written p clipped (stepSet bs k (stepIn p k)) (k + 1)
+  pub written-step : (bs : List ℕ) (k : ℕ) → k < p .count → WrittenSteps p clipped bs k → WrittenSteps p clipped (stepSet bs k (stepIn p k)) (k + 1)
   written-step bs k h w =
       let room : k < 16 = omega (arith, sound .few) in
       let before : (i : ℕ) → i < 2 → getD (stepSet bs k (stepIn p k)) i 0 ≡ getD bs i 0 =
@@ -184,12 +184,12 @@ module _ (p : Pattern) (sound : SoundPattern p) (clipped : Bool) where
       let others = packed-from bs n (suc k) (omega arith) h in
       rw (first, others) (sym (steps-from p sound k (omega arith)))
 
-  pub written-packed : (bs : List ℕ) → Written p clipped bs (p .count) → packed bs ≡ stepsIn p
+  pub written-packed : (bs : List ℕ) → WrittenSteps p clipped bs (p .count) → packed bs ≡ stepsIn p
   unfolding packed
   written-packed bs w = ap (packedFrom bs 0) (w .count) ∙ packed-from bs (p .count) 0 (omega arith) (w .steps)
 
 -- a body that is written is kept
-pub kept-body : (m : Marked) (body : Body) (bs : List ℕ) → IsBody m body → Written (m .pattern) (m .clipped) bs (m .pattern .count) → Packed bs body
+pub kept-body : (m : Marked) (body : Body) (bs : List ℕ) → IsBody m body → WrittenSteps (m .pattern) (m .clipped) bs (m .pattern .count) → Packed bs body
 kept-body m body bs h w =
     let s = h .stands .sound in
     record {

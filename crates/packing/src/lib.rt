@@ -7,9 +7,9 @@ ghost use Prim.Native.Nat.{_≤_};
 ghost use mathlib.Core.Path.{_≡_};
 ghost use lib.Dec.{eqb};
 ghost use lib.ListN.{getD};
-ghost use Rattle.shapes.specs.Shapes.{SoundPattern};
+ghost use Rattle.shapes.specs.Shapes.{WellFormed};
 ghost use Rattle.shapes.specs.Holding.{Holds};
-ghost use Rattle.packing.specs.Packing.{packed, Written};
+ghost use Rattle.packing.specs.Packing.{packed, WrittenSteps};
 ghost use Rattle.meaning.specs.Numbers.{mostSteps};
 
 // The bytes of a body: its step count, its mark and three bytes a step.
@@ -24,8 +24,8 @@ fn mark_number(clipped: bool) -> u8
 
 // A body as it is kept in the table: its step count, its mark and three bytes a step.
 pub fn pack(b: Marked) -> [u8; BODY]
-    requires { ⌜ SoundPattern (b .pattern) ⌝ }
-    ensures { λ r. ⌜ Written (b .pattern) (b .clipped) r (b .pattern .count) ⌝ }
+    requires { ⌜ WellFormed (b .pattern) ⌝ }
+    ensures { λ r. ⌜ WrittenSteps (b .pattern) (b .clipped) r (b .pattern .count) ⌝ }
 {
     let p = b.pattern;
     let mark = mark_number(b.clipped);

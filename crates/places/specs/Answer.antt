@@ -105,11 +105,11 @@ module _ {A B : Type 0} where
   then-answer s a b (No n) next f h = refl
 
 -- n bytes of a list are its first n, where there are so many
-pub bytes-read : (n : ℕ) (l : List ℕ) → bytes n l ≡ pick (leb n (length l)) (read (take n l) (drop n l)) (refused 1)
+pub bytes-at : (n : ℕ) (l : List ℕ) → bytes n l ≡ pick (leb n (length l)) (read (take n l) (drop n l)) (refused 1)
 unfolding bytes repeat give byte _>>=_ go-on pick
-bytes-read zero l = rw (leb·zero (length l))
-bytes-read (suc n) [] = rw (leb·suc-zero n)
-bytes-read (suc n) (x ∷ l) = rw (leb·suc-suc n (length l)) (ap (λ (r : Reading (List ℕ)). go-on r (λ later. give (x ∷ later))) (bytes-read n l) ∙ go (leb n (length l)))
+bytes-at zero l = rw (leb·zero (length l))
+bytes-at (suc n) [] = rw (leb·suc-zero n)
+bytes-at (suc n) (x ∷ l) = rw (leb·suc-suc n (length l)) (ap (λ (r : Reading (List ℕ)). go-on r (λ later. give (x ∷ later))) (bytes-at n l) ∙ go (leb n (length l)))
   where
     go : (b : Bool) → go-on (pick b (read (take n l) (drop n l)) (refused 1)) (λ later. give (x ∷ later)) ≡ pick b (read (x ∷ take n l) (drop n l)) (refused 1)
     go true = refl
@@ -147,7 +147,7 @@ module _ {B : Type 0} (s : List ℕ) where
   -- n bytes, where there are so many
   pub then-bytes : (n at : ℕ) (next : List ℕ → Reader B) → _>>=_ (bytes n) next (drop at s) ≡ pick (leb n (length s - at)) (next (take n (drop at s)) (drop (at + n) s)) (refused 1)
   unfolding _>>=_ go-on pick
-  then-bytes n at next = ap (λ (r : Reading (List ℕ)). go-on r next) (bytes-read n (drop at s)) ∙ rw (length-drop at s, drop-drop n at s) (go (leb n (length s - at)))
+  then-bytes n at next = ap (λ (r : Reading (List ℕ)). go-on r next) (bytes-at n (drop at s)) ∙ rw (length-drop at s, drop-drop n at s) (go (leb n (length s - at)))
     where
       go : (b : Bool) → go-on (pick b (read (take n (drop at s)) (drop (at + n) s)) (refused 1)) next ≡ pick b (next (take n (drop at s)) (drop (at + n) s)) (refused 1)
       go true = refl

@@ -5,4 +5,4 @@ pub mod Section
 pub mod Fields
 pub mod InTurn
 pub mod Reached
-pub mod Turns
+pub mod ReadingLoop

@@ -37,11 +37,11 @@ module _ (s : List ℕ) where
       second h = omega arith
 
   -- a number of n bytes, where there are so many
-  pub number-read : (n at : ℕ) → number n (drop at s) ≡ pick (leb n (length s - at)) (read (numberIn s at n) (drop (at + n) s)) (refused 1)
+  pub number-at : (n at : ℕ) → number n (drop at s) ≡ pick (leb n (length s - at)) (read (numberIn s at n) (drop (at + n) s)) (refused 1)
   unfolding number numberIn give _>>=_ pick go-on
-  number-read zero at = rw (leb·zero (length s - at), add-zero at)
-  number-read (suc n) at =
-      then-byte s at _ ∙ rw (number-read n (at + 1), ← (one-and-more n at), ← further) (go (ltb at (length s)) (leb n (length s - (at + 1))))
+  number-at zero at = rw (leb·zero (length s - at), add-zero at)
+  number-at (suc n) at =
+      then-byte s at _ ∙ rw (number-at n (at + 1), ← (one-and-more n at), ← further) (go (ltb at (length s)) (leb n (length s - (at + 1))))
     where
       further : at + 1 + n ≡ at + suc n
       further = omega arith
@@ -56,7 +56,7 @@ module _ {B : Type 0} (s : List ℕ) where
   -- read on after a number
   pub then-number : (n at : ℕ) (next : ℕ → Reader B) → _>>=_ (number n) next (drop at s) ≡ pick (leb n (length s - at)) (next (numberIn s at n) (drop (at + n) s)) (refused 1)
   unfolding _>>=_ go-on pick
-  then-number n at next = ap (λ (r : Reading ℕ). go-on r next) (number-read s n at) ∙ go (leb n (length s - at))
+  then-number n at next = ap (λ (r : Reading ℕ). go-on r next) (number-at s n at) ∙ go (leb n (length s - at))
     where
       go : (b : Bool) → go-on (pick b (read (numberIn s at n) (drop (at + n) s)) (refused 1)) next ≡ pick b (next (numberIn s at n) (drop (at + n) s)) (refused 1)
       go true = refl

@@ -11,15 +11,15 @@ use Rattle.meaning.specs.Forest.{size}
 use Rattle.meaning.specs.Sections.{Sheet}
 use Rattle.meaning.specs.Sections
 use Rattle.meaning.specs.Printing.{tableText, refusedText}
-use Rattle.shapes.specs.Shapes.{entryOf, entriesIn, tableOf, SoundPattern, SoundTable}
+use Rattle.shapes.specs.Shapes.{entryOf, entriesIn, tableOf, WellFormed, WellFormedTable}
 use Rattle.shapes.specs.Steps.{count-size}
-use Rattle.shapes.specs.Tables.{length-table}
+use Rattle.shapes.specs.TableValues.{length-table}
 use Rattle.shapes.specs.declared.Entry.{Entry}
 use Rattle.shapes.specs.declared.Table.{Table}
 use Rattle.reading.specs.SheetPlaces.{forestAt, afterPattern, forestsAt, patternCountAt, sheetAt}
-use Rattle.texts.specs.Output.{written, put, put-whole}
+use Rattle.texts.specs.PutText.{written, put, put-whole}
 use Rattle.texts.specs.StepTexts.{labelsIn}
-use Rattle.printing.specs.Tables.{builtTable, textOf, text-of}
+use Rattle.printing.specs.TableTexts.{builtTable, textOf, text-of}
 use Rattle.printing.specs.ShortLabels.{Short}
 use Rattle.printing.specs.Room.{Small, table-room, refused-room}
 
@@ -29,7 +29,7 @@ unfolding sheetAt forestsAt
 sheet-subscriptions s = length-standing (forestAt s) (afterPattern s) (patternCountAt s + 1) (getD s (patternCountAt s) 0)
 
 -- no entry has more steps than may be
-small-entries : (es : List Entry) → ((e : Entry) → List·Memᴰ e es → SoundPattern (e .pattern)) → (x : Sections.Entry) → List·Memᴰ x (map entryOf es) → size (x .pattern) ≤ mostSteps
+small-entries : (es : List Entry) → ((e : Entry) → List·Memᴰ e es → WellFormed (e .pattern)) → (x : Sections.Entry) → List·Memᴰ x (map entryOf es) → size (x .pattern) ≤ mostSteps
 unfolding entryOf
 small-entries [] sound x m = elim m [ ]
 small-entries (e ∷ es) sound x m =
@@ -39,14 +39,14 @@ small-entries (e ∷ es) sound x m =
     (List·Memᴰ·cases-cons m)
 
 -- a sound table by value is within the limits
-pub small-table : (t : Table) (rounds : ℕ) → SoundTable t → rounds < 100000 → Small (builtTable t rounds)
+pub small-table : (t : Table) (rounds : ℕ) → WellFormedTable t → rounds < 100000 → Small (builtTable t rounds)
 unfolding builtTable tableOf
 small-table t rounds sound h =
     record { few = omega (arith, length-table t sound, sound .few); small = small-entries (entriesIn t) (sound .patterns); rounds = h }
 
 -- after `put_table` the output begins with the table's text, and the next place is its length
 pub table-printed : (sh : Sheet) (s : List ℕ) (subscriptions : ℕ) (t : Table) (rounds : ℕ) (out after : List ℕ) (next : ℕ)
-    → SoundTable t → rounds < 100000 → sh .labels ≡ labelsIn s → Short (sh .labels) → length (sh .patterns) ≡ subscriptions → subscriptions ≤ mostPatterns
+    → WellFormedTable t → rounds < 100000 → sh .labels ≡ labelsIn s → Short (sh .labels) → length (sh .patterns) ≡ subscriptions → subscriptions ≤ mostPatterns
     → 80000 ≤ length out → written after next ≡ put (written out 0) (textOf (labelsIn s) subscriptions (builtTable t rounds))
     → (next ≡ length (tableText sh (builtTable t rounds))) × (after ≡ tableText sh (builtTable t rounds) ++ drop (length (tableText sh (builtTable t rounds))) out)
 table-printed sh s subscriptions t rounds out after next sound few e short f l room h =

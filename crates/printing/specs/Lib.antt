@@ -1,5 +1,5 @@
-pub mod Members
-pub mod Tables
+pub mod MemberTexts
+pub mod TableTexts
 pub mod ShortLabels
 pub mod Room
 pub mod Enough

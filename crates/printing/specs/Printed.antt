@@ -21,9 +21,9 @@ use Rattle.reading.specs.SheetSection.{sheetPlace}
 use Rattle.reading.specs.SheetJudged.{sheet-judged, SheetStands, sheet-stands}
 use Rattle.places.specs.Reached.{reached}
 use Rattle.building.specs.Counting.{buildFrom, build-from}
-use Rattle.texts.specs.Output.{Written, put}
+use Rattle.texts.specs.PutText.{Written, put}
 use Rattle.texts.specs.StepTexts.{labelsIn}
-use Rattle.printing.specs.Tables.{builtTable, textOf, text-of}
+use Rattle.printing.specs.TableTexts.{builtTable, textOf, text-of}
 
 -- the labels that are put are the sheet's
 sheet-labels : (s : List ℕ) → sheetAt s .labels ≡ labelsIn s

@@ -22,7 +22,7 @@ use Rattle.meaning.specs.LabelBytes.{labelAt}
 use Rattle.meaning.specs.Printing.{ascii, decimal, axisText, labelText, several, inBrackets, branchesText, patternText, commaText, totalsText, entryText, tableText, refusedText}
 use Rattle.texts.specs.Decimals.{digits}
 use Rattle.texts.specs.Wanted.{byteIf}
-use Rattle.printing.specs.Members.{numbersText, numbers-text}
+use Rattle.printing.specs.MemberTexts.{numbersText, numbers-text}
 use Rattle.printing.specs.ShortLabels.{Short}
 
 -- ---- a pattern: 64 bytes a step

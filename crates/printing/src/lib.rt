@@ -15,10 +15,10 @@ ghost use mathlib.Core.Path.{_≡_};
 ghost use Rattle.meaning.specs.Numbers.{mostPatterns};
 ghost use Rattle.meaning.specs.Routing.{membersOf};
 ghost use Rattle.meaning.specs.Printing.{commaText, entryText};
-ghost use Rattle.shapes.specs.Shapes.{entryOf, SoundPattern, SoundTable};
-ghost use Rattle.texts.specs.Output.{written, put};
+ghost use Rattle.shapes.specs.Shapes.{entryOf, WellFormed, WellFormedTable};
+ghost use Rattle.texts.specs.PutText.{written, put};
 ghost use Rattle.texts.specs.StepTexts.{labelsIn};
-ghost use Rattle.printing.specs.Tables.{totalsOf, builtTable, textOf};
+ghost use Rattle.printing.specs.TableTexts.{totalsOf, builtTable, textOf};
 
 // The members of an entry, of n subscriptions, ascending, with a comma between them; the next place.
 fn put_members(out: &mut [u8], at: usize, members: u64, n: usize) -> usize
@@ -59,7 +59,7 @@ fn put_totals(
 
 // A line for an entry, beside a sheet s of so many subscriptions; the next place.
 fn put_entry(out: &mut [u8], at: usize, s: &[u8], e: Entry, subscriptions: usize) -> usize
-    requires { ⌜ SoundPattern (e .pattern) × (subscriptions ≤ mostPatterns) ⌝ }
+    requires { ⌜ WellFormed (e .pattern) × (subscriptions ≤ mostPatterns) ⌝ }
     ensures { λ r. ⌜ written (now (out .exit)) r ≡ put (written (now (out .entry)) at) (entryText (labelsIn (now (s .entry))) subscriptions (entryOf e)) ⌝ }
 {
     let mut next = put_members(out, at, e.members, subscriptions);
@@ -70,7 +70,7 @@ fn put_entry(out: &mut [u8], at: usize, s: &[u8], e: Entry, subscriptions: usize
 
 // A table: the totals, and a line for each entry; the next place.
 pub fn put_table(out: &mut [u8], s: &[u8], t: Table, subscriptions: usize, rounds: usize) -> usize
-    requires { ⌜ SoundTable t × (subscriptions ≤ mostPatterns) ⌝ }
+    requires { ⌜ WellFormedTable t × (subscriptions ≤ mostPatterns) ⌝ }
     ensures { λ r. ⌜ written (now (out .exit)) r ≡ put (written (now (out .entry)) 0) (textOf (labelsIn (now (s .entry))) subscriptions (builtTable t rounds)) ⌝ }
 {
     let steps = steps_together(t);

@@ -3,16 +3,16 @@ use crate::put_table;
 use answers::built::first_entries;
 use base::Cur;
 use building::build;
-use patterns::subscriptions_in;
 use places::pair_at;
 use reading::sheet;
+use subscriptions::subscriptions_in;
 use texts::put_refused;
 ghost use mathlib.Core.Path.{_≡_};
 ghost use Rattle.meaning.specs.Building.{build};
 ghost use Rattle.meaning.specs.Printing.{tableText, printed};
 ghost use Rattle.reading.specs.SheetPlaces.{sheetAt};
 ghost use Rattle.reading.specs.SheetJudged.{SheetStands};
-ghost use Rattle.texts.specs.Output.{written, put};
+ghost use Rattle.texts.specs.PutText.{written, put};
 
 // The table that is built for a limit from a sheet that was judged, as text.
 fn put_built(s: &[u8], limit: u16, out: &mut [u8]) -> usize

@@ -1,5 +1,5 @@
 pub mod SheetPlaces
 pub mod StepSection
-pub mod Turns
+pub mod ClimbingLoop
 pub mod SheetSection
 pub mod SheetJudged

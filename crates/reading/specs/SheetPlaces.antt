@@ -12,8 +12,8 @@ use Rattle.labels.specs.LabelPlaces.{textAt, textsAt, afterLabel}
 -- ---- steps: parent, axis, label
 
 -- the step at p
-unfoldable pub stepAt : List ℕ → ℕ → Step
-stepAt s p = record { parent = getD s p 0; axis = getD s (p + 1) 0; label = getD s (p + 2) 0 }
+unfoldable pub stepAtPlace : List ℕ → ℕ → Step
+stepAtPlace s p = record { parent = getD s p 0; axis = getD s (p + 1) 0; label = getD s (p + 2) 0 }
 
 -- the place after it
 unfoldable pub afterStep : ℕ → ℕ
@@ -21,7 +21,7 @@ afterStep p = p + 3
 
 -- n steps from the place p on
 unfoldable pub stepsAt : List ℕ → ℕ → ℕ → List Step
-stepsAt s = standing (stepAt s) afterStep
+stepsAt s = standing (stepAtPlace s) afterStep
 
 -- ---- patterns: a step count and the steps
 

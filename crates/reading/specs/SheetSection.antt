@@ -51,17 +51,17 @@ module _ (s : List ℕ) (known : ℕ) where
 -- ---- a sheet
 
 -- a sheet of its labels and patterns
-abbrev pub made : List (List ℕ) → List Forest → Sheet
-made ls ps = record { labels = ls; patterns = ps }
+abbrev pub aSheet : List (List ℕ) → List Forest → Sheet
+aSheet ls ps = record { labels = ls; patterns = ps }
 
 -- the patterns of a sheet of n labels, from their count at x on, and the end
-unfoldable pub closingSection : (s : List ℕ) (n x : ℕ) → Section s (
+unfoldable pub patternsToEnd : (s : List ℕ) (n x : ℕ) → Section s (
     _>>=_ byte λ m.
     _>>_ (unless countOutside (leb m mostPatterns)) (
     _>>=_ (repeat m (pattern (length (textsAt s 1 n)))) λ ps.
-    _>>_ end (give (made (textsAt s 1 n) ps)))) x
+    _>>_ end (give (aSheet (textsAt s 1 n) ps)))) x
 unfolding patternsPlace andThen
-closingSection s n x =
+patternsToEnd s n x =
     judgedAs (andThen (patternsPlace s n x) (endPlace s)) (
     byteThen λ m.
     unlessThen countOutside (leb m mostPatterns) (
@@ -70,11 +70,11 @@ closingSection s n x =
     (simp andThen-pick)
 
 unfoldable pub sheetSection : (s : List ℕ) → Section s sheet 0
-unfolding sheet textsAt standing closingSection patternSection sheetAt patternCountAt forestsAt labelsSection
+unfolding sheet textsAt standing patternsToEnd patternSection sheetAt patternCountAt forestsAt labelsSection
 sheetSection s =
     standsAs (sheetAt s) _ (
     byteThen λ n.
-    sectionThen _ (labelsSection s 0 s 1 n) (closingSection s n))
+    sectionThen _ (labelsSection s 0 s 1 n) (patternsToEnd s n))
     refl refl
 
 -- where a sheet ends, or the number of its first fault
@@ -94,7 +94,7 @@ pub record PatternsStand (s : List ℕ) : Type 0 where
 
 -- so it is of every sheet that was read
 pub patterns-stand : (s : List ℕ) (sh : Sheet) (left : List ℕ) → sheet s ≡ read sh left → PatternsStand s
-unfolding sheetSection closingSection labelsSection patternsPlace patternCountAt
+unfolding sheetSection patternsToEnd labelsSection patternsPlace patternCountAt
 patterns-stand s sh left h =
     let c = section-is (sheetSection s) sh left h .1 in
     let a = passed (ltb 0 (length s)) _ 1 (c .0) (c .1) in

@@ -18,8 +18,8 @@ use Rattle.base.specs.declared.Cur.the-variants.{At, No}
 use Rattle.meaning.specs.Reader.{give}
 use Rattle.meaning.specs.Sections.{upFrom, pathAfter, mayHang, nearRoot, isNearRoot, aStep, steps}
 use Rattle.meaning.specs.declared.Step.{Step}
-use Rattle.laws.specs.Judged.{path-after}
-use Rattle.reading.specs.SheetPlaces.{stepAt, afterStep, stepsAt}
+use Rattle.laws.specs.JudgingGives.{path-after}
+use Rattle.reading.specs.SheetPlaces.{stepAtPlace, afterStep, stepsAt}
 use Rattle.places.specs.Answer.{answer, answer-pick, passed, passed-not, then-byte, then-unless, pick-not, two}
 use Rattle.places.specs.Section.{Section, standsAs}
 use Rattle.places.specs.InTurn.{inTurn}
@@ -137,7 +137,7 @@ module _ (s : List ℕ) (known p : ℕ) where
 
   -- a step that was judged makes the path longer
   next : (k x : ℕ) → x ≡ p + 3 * k → PathUp k → climbs s p (getD s x 0) (k + 1) k ≡ true → PathUp (k + 1)
-  unfolding stepsAt stepAt
+  unfolding stepsAt stepAtPlace
   next k x h w m = record { way = rw longer (above {c = k + 1} (λ z. absurd (omega arith)) up); short = rw longer (omega (arith, length-upFrom (getD s x 0) (pathAfter 1 (0 ∷ []) (stepsAt s p k)), w .short)) }
     where
       there : placeAfter afterStep p k ≡ x
@@ -145,9 +145,9 @@ module _ (s : List ℕ) (known p : ℕ) where
 
       longer : pathAfter 1 (0 ∷ []) (stepsAt s p (k + 1)) ≡ (k + 1) ∷ upFrom (getD s x 0) (pathAfter 1 (0 ∷ []) (stepsAt s p k))
       longer =
-          let all : stepsAt s p k ++ (stepAt s x ∷ []) ≡ stepsAt s p (k + 1) = rw (add-one k) (rw there at (standing-last (stepAt s) afterStep p k)) in
-          let long : 1 + length (stepsAt s p k) ≡ k + 1 = omega (arith, length-standing (stepAt s) afterStep p k) in
-          sym (ap (pathAfter 1 (0 ∷ [])) all) ∙ path-after 1 (0 ∷ []) (stepsAt s p k) (stepAt s x) ∙ ap (λ (n : ℕ). n ∷ upFrom (getD s x 0) (pathAfter 1 (0 ∷ []) (stepsAt s p k))) long
+          let all : stepsAt s p k ++ (stepAtPlace s x ∷ []) ≡ stepsAt s p (k + 1) = rw (add-one k) (rw there at (standing-last (stepAtPlace s) afterStep p k)) in
+          let long : 1 + length (stepsAt s p k) ≡ k + 1 = omega (arith, length-standing (stepAtPlace s) afterStep p k) in
+          sym (ap (pathAfter 1 (0 ∷ [])) all) ∙ path-after 1 (0 ∷ []) (stepsAt s p k) (stepAtPlace s x) ∙ ap (λ (n : ℕ). n ∷ upFrom (getD s x 0) (pathAfter 1 (0 ∷ []) (stepsAt s p k))) long
 
       up : WayUp s p (getD s (p + 3 * (k + 1 - 1)) 0) (upFrom (getD s x 0) (pathAfter 1 (0 ∷ []) (stepsAt s p k)))
       up =
@@ -155,9 +155,9 @@ module _ (s : List ℕ) (known p : ℕ) where
           rw (← e) (path-from s p (getD s x 0) (w .way) (sym (climbs-path s p (getD s x 0) (k + 1) (w .way) (w .short)) ∙ m))
 
   -- a step at a place, beside the k steps before it
-  pub step-read : (k x : ℕ) → PathUp k → aStep known (stepsAt s p k) (drop x s) ≡ answer s (stepAt s x) (stepPlace s known p k x)
-  unfolding aStep stepPlace stepLabel isSecondNear give answer stepAt
-  step-read k x w = simp (may-hang k (getD s x 0) w, answer-pick, then-byte, then-unless, pick-not, two)
+  pub step-reads : (k x : ℕ) → PathUp k → aStep known (stepsAt s p k) (drop x s) ≡ answer s (stepAtPlace s x) (stepPlace s known p k x)
+  unfolding aStep stepPlace stepLabel isSecondNear give answer stepAtPlace
+  step-reads k x w = simp (may-hang k (getD s x 0) w, answer-pick, then-byte, then-unless, pick-not, two)
 
   -- a step that was read: the next place, its parent was met, and it ends within the bytes
   pub step-leads : (k x y : ℕ) → stepPlace s known p k x ≡ At y → (y ≡ afterStep x) × (climbs s p (getD s x 0) (k + 1) k ≡ true) × (y ≤ length s)
@@ -180,13 +180,13 @@ module _ (s : List ℕ) (known p : ℕ) where
     pub before : t ≡ stepsAt s p k
     pub path : PathUp k
 
-  pub steps-told : (k x y : ℕ) (t : List Step) → StepsTold k x t → stepPlace s known p k x ≡ At y → StepsTold (k + 1) y (t ++ (stepAt s x ∷ []))
+  pub steps-told : (k x y : ℕ) (t : List Step) → StepsTold k x t → stepPlace s known p k x ≡ At y → StepsTold (k + 1) y (t ++ (stepAtPlace s x ∷ []))
   unfolding stepsAt
   steps-told k x y t h e =
       let leads = step-leads k x y e in
       record {
         there = leads .0 ∙ after-place p x k (h .there);
-        before = rw (h .before, add-one k) (rw (step-place p k ∙ sym (h .there)) at (standing-last (stepAt s) afterStep p k));
+        before = rw (h .before, add-one k) (rw (step-place p k ∙ sym (h .there)) at (standing-last (stepAtPlace s) afterStep p k));
         path = next k x (h .there) (h .path) (leads .1);
       }
 
@@ -198,7 +198,7 @@ module _ (s : List ℕ) (known p : ℕ) where
   unfolding steps stepsAt standing
   stepsSection n =
       standsAs (stepsAt s p n) (p + 3 * n) (
-      inTurn s (steps known) (aStep known) (λ t a. t ++ (a ∷ [])) (λ t. refl) (λ m t. refl) (stepAt s) afterStep (stepPlace s known p) StepsTold
-      (λ k x t h. rw (h .before) (step-read k x (h .path))) (λ k x y e. step-leads k x y e .0) step-inside steps-told n p []
+      inTurn s (steps known) (aStep known) (λ t a. t ++ (a ∷ [])) (λ t. refl) (λ m t. refl) (stepAtPlace s) afterStep (stepPlace s known p) StepsTold
+      (λ k x t h. rw (h .before) (step-reads k x (h .path))) (λ k x y e. step-leads k x y e .0) step-inside steps-told n p []
       (record { there = omega arith; before = refl; path = start }))
       refl (step-place p n)

@@ -13,7 +13,7 @@ ghost use Rattle.base.specs.Lists.{some};
 ghost use Rattle.base.specs.Loops.{run};
 ghost use Rattle.meaning.specs.Numbers.{mostSteps};
 ghost use Rattle.meaning.specs.Sections.{isNearRoot};
-ghost use Rattle.reading.specs.SheetPlaces.{stepAt, stepsAt};
+ghost use Rattle.reading.specs.SheetPlaces.{stepAtPlace, stepsAt};
 ghost use Rattle.reading.specs.StepSection.{climbs, isSecondNear, stepLabel, stepPlace};
 
 // Step q, or the root, is met going up from step c at most n times, where the steps stand from the place p on.
@@ -39,7 +39,7 @@ fn climbs_to(s: &[u8], p: usize, q: usize, n: usize, c: usize) -> bool
 // The step at x is near and has parent 0.
 fn near_root_at(s: &[u8], x: usize) -> bool
     requires { ⌜ x < 2 ^ 63 + 100 ⌝ }
-    ensures { λ r. ⌜ r ≡ isNearRoot (stepAt (now (s .entry)) x) ⌝ }
+    ensures { λ r. ⌜ r ≡ isNearRoot (stepAtPlace (now (s .entry)) x) ⌝ }
 {
     if byte_at(s, x) != 0 {
         return false;

@@ -1,4 +1,4 @@
 pub mod Plain
 pub mod Tabling
 pub mod TableSet
-pub mod Answers
+pub mod RouteAnswers

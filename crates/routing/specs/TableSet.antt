@@ -20,7 +20,7 @@ use Rattle.meaning.specs.Sections.{Node, Entry}
 use Rattle.meaning.specs.Satisfying.{satisfies}
 use Rattle.meaning.specs.Fair.{isMember, hasMember}
 use Rattle.meaning.specs.Routing.{matchesFor, deliveredFrom, tableRoute}
-use Rattle.laws.specs.Members.{member-none, member-delivery, delivery-lt}
+use Rattle.laws.specs.MemberBits.{member-none, member-delivery, delivery-lt}
 use Rattle.routing.specs.declared.Route.{Route}
 use Rattle.members.specs.Marks.{marked, member-marked, marked-lt, same-members}
 use Rattle.routing.specs.Tabling.{start, oneMore, memberTried, askMember, askMembers, askEntry, routeBy}

@@ -13,10 +13,10 @@ use meaning::Routed;
 use meaning::Tabled;
 use members::is_member;
 use members::mark;
-use patterns::Subscriptions;
-use patterns::pattern_at;
-use patterns::subscriptions_in;
 use shapes::Entry;
+use subscriptions::Subscriptions;
+use subscriptions::pattern_at;
+use subscriptions::subscriptions_in;
 use tables::Entries;
 use tables::entries_in;
 use tables::entry_at;
@@ -26,10 +26,10 @@ ghost use Rattle.meaning.specs.Numbers.{mostPatterns};
 ghost use Rattle.meaning.specs.Satisfying.{satisfies};
 ghost use Rattle.meaning.specs.Routing.{plainRoute};
 ghost use Rattle.meaning.specs.Calls.{matchesAnswer, plainAnswer, tableAnswer};
-ghost use Rattle.shapes.specs.Shapes.{nodesAt, entryOf, patternOf, SoundPattern};
+ghost use Rattle.shapes.specs.Shapes.{nodesAt, entryOf, patternOf, WellFormed};
 ghost use Rattle.reading.specs.SheetPlaces.{sheetAt};
-ghost use Rattle.patterns.specs.Taken.{patternAt};
-ghost use Rattle.patterns.specs.Subscribed.{SubscriptionsStand};
+ghost use Rattle.subscriptions.specs.Taken.{patternAt};
+ghost use Rattle.subscriptions.specs.Subscribed.{SubscriptionsStand};
 ghost use Rattle.tables.specs.TableJudged.{EntriesStand};
 ghost use Rattle.reading.specs.SheetJudged.{SheetStands};
 ghost use Rattle.documents.specs.DocumentJudged.{NodesStand};
@@ -45,7 +45,7 @@ struct Route {
 
 // Does the document whose n nodes stand from a place on satisfy the pattern at x of the sheet?
 fn ask(s: &[u8], x: usize, d: &[u8], at: usize, n: usize) -> bool
-    requires { ⌜ SoundPattern (patternAt (now s) x) × NodesStand (now d) at n ⌝ }
+    requires { ⌜ WellFormed (patternAt (now s) x) × NodesStand (now d) at n ⌝ }
     ensures { λ r. ⌜ r ≡ satisfies (nodesAt (now (d .entry)) at n) (patternOf (patternAt (now (s .entry)) x)) ⌝ }
 {
     matches(d, at, n, pattern_at(s, x))
@@ -112,7 +112,7 @@ fn ask_member(
     i: usize,
     route: Route,
 ) -> Route
-    requires { ⌜ (i < mostPatterns) × SoundPattern (patternAt (now s) x) × NodesStand (now d) at n × (route .tried < 2 ^ 32) ⌝ }
+    requires { ⌜ (i < mostPatterns) × WellFormed (patternAt (now s) x) × NodesStand (now d) at n × (route .tried < 2 ^ 32) ⌝ }
     ensures { λ r. ⌜ r ≡ memberTried members i (satisfies (nodesAt (now (d .entry)) at n) (patternOf (patternAt (now (s .entry)) x))) route ⌝ }
 {
     if !is_member(members, i) {
@@ -159,7 +159,7 @@ fn ask_entry(
     e: Entry,
     route: Route,
 ) -> Route
-    requires { ⌜ SubscriptionsStand (now s) subscriptions × NodesStand (now d) at n × SoundPattern (e .pattern) × (route .tried < 2 ^ 30) ⌝ }
+    requires { ⌜ SubscriptionsStand (now s) subscriptions × NodesStand (now d) at n × WellFormed (e .pattern) × (route .tried < 2 ^ 30) ⌝ }
     ensures { λ r. ⌜ r ≡ askEntry (nodesAt (now (d .entry)) at n) (sheetAt (now (s .entry)) .patterns) (entryOf e) route ⌝ }
 {
     let asked = try_pattern(d, at, n, e.pattern, route.tried);

@@ -1,6 +1,6 @@
 pub mod Placing
 pub mod Removing
-pub mod Joining
+pub mod JoinedEntries
 pub mod Pairs
 pub mod Settled
-pub mod Turns
+pub mod SettlingLoop

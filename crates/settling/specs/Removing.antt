@@ -9,7 +9,7 @@ use lib.Seq.{take-suc, take-suc-set, drop-set-lt, drop-drop, getD-drop}
 use Rattle.base.specs.Lists.{without}
 use Rattle.base.specs.Replacing.{length-without, without-gives}
 use Rattle.base.specs.Mapping.{without-after, without-take, map-without}
-use Rattle.shapes.specs.Shapes.{SoundPattern, entryOf, entriesIn, tableOf, SoundTable}
+use Rattle.shapes.specs.Shapes.{WellFormed, entryOf, entriesIn, tableOf, WellFormedTable}
 use Rattle.shapes.specs.declared.Entry.{Entry}
 use Rattle.shapes.specs.declared.Table.{Table}
 
@@ -53,7 +53,7 @@ module _ {A : Type 0} where
           ∙ (rw (add-one k) at (sym (drop-drop 1 k m) ∙ ap (drop 1) (z .rest) ∙ drop-drop 1 k l))
 
 -- the table whose entries are so moved, one less
-module _ (t : Table) (s : SoundTable t) (j k : ℕ) (m : List Entry) (h : j < t .count) (e : suc k ≡ t .count) (z : Moved (t .entries) j k m) where
+module _ (t : Table) (s : WellFormedTable t) (j k : ℕ) (m : List Entry) (h : j < t .count) (e : suc k ≡ t .count) (z : Moved (t .entries) j k m) where
   -- the table that they are
   abbrev pub removed : Table
   removed = record { count = k; entries = m }
@@ -69,8 +69,8 @@ module _ (t : Table) (s : SoundTable t) (j k : ℕ) (m : List Entry) (h : j < t 
   table-removed = ap (map entryOf) entries-removed ∙ map-without entryOf j (entriesIn t)
 
   -- they are well formed
-  pub sound-removed : SoundTable removed
+  pub sound-removed : WellFormedTable removed
   sound-removed = record { few = omega (arith, s .few); full = z .long ∙ s .full; patterns = patterns }
     where
-      patterns : (f : Entry) → List·Memᴰ f (entriesIn removed) → SoundPattern (f .pattern)
+      patterns : (f : Entry) → List·Memᴰ f (entriesIn removed) → WellFormed (f .pattern)
       patterns f p = s .patterns f (without-gives j (entriesIn t) (rw entries-removed at p))

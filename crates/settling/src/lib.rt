@@ -8,12 +8,12 @@ ghost use mathlib.Core.Path.{_≡_};
 ghost use Prim.Native.Nat.{_-_, _<_, _≤_};
 ghost use Rattle.base.specs.Loops.{scan};
 ghost use Rattle.meaning.specs.Building.{settle};
-ghost use Rattle.shapes.specs.Shapes.{tableOf, SoundTable};
+ghost use Rattle.shapes.specs.Shapes.{tableOf, WellFormedTable};
 ghost use Rattle.settling.specs.Settled.{coversAt};
 
 // The first entry from j on that entry i covers, itself aside, or the count where there is none.
 fn first_covered(t: Table, i: usize, j: usize) -> usize
-    requires { ⌜ SoundTable t × (i < t .count) × (j ≤ t .count) ⌝ }
+    requires { ⌜ WellFormedTable t × (i < t .count) × (j ≤ t .count) ⌝ }
     ensures { λ r. ⌜ r ≡ scan (coversAt (tableOf t) i) (t .count - j) j ⌝ }
 {
     let e = t.entries[i];
@@ -33,8 +33,8 @@ fn first_covered(t: Table, i: usize, j: usize) -> usize
 
 // No pair is left where entry i covers entry j. What stands before the pair last found stays as it was, so the search goes on there.
 pub fn settle(t: Table) -> Table
-    requires { ⌜ SoundTable t ⌝ }
-    ensures { λ r. ⌜ (tableOf r ≡ settle (tableOf t)) × SoundTable r ⌝ }
+    requires { ⌜ WellFormedTable t ⌝ }
+    ensures { λ r. ⌜ (tableOf r ≡ settle (tableOf t)) × WellFormedTable r ⌝ }
 {
     let mut u = t;
     let mut i = 0;

@@ -9,7 +9,7 @@ use lib.Seq.{take-suc-set, length-take-le}
 use Rattle.meaning.specs.Forest.{Forest, none, forest, stepsFrom, stepsOf}
 use Rattle.meaning.specs.declared.Step.{Step}
 use Rattle.laws.specs.Bridge.{forest-stepsOf}
-use Rattle.shapes.specs.Shapes.{stepsIn, patternOf, SoundPattern}
+use Rattle.shapes.specs.Shapes.{stepsIn, patternOf, WellFormed}
 use Rattle.shapes.specs.Steps.{length-steps}
 use Rattle.shapes.specs.declared.Pattern.{Pattern}
 
@@ -21,12 +21,12 @@ pub record Holds (p : Pattern) (ss : List Step) : Type 0 where
   pub full : length (p .steps) ≡ 16
 
 -- a pattern by value that is well formed, and stands for a forest
-pub record Stands (p : Pattern) (f : Forest) : Type 0 where
+pub record StandsFor (p : Pattern) (f : Forest) : Type 0 where
   pub pattern : patternOf p ≡ f
-  pub sound : SoundPattern p
+  pub sound : WellFormed p
 
 -- one that holds the steps of a forest stands for it
-pub stands : (p : Pattern) (f : Forest) → Holds p (stepsOf f) → Stands p f
+pub stands : (p : Pattern) (f : Forest) → Holds p (stepsOf f) → StandsFor p f
 unfolding patternOf
 stands p f h =
     let is : forest (stepsIn p) ≡ f = ap forest (h .steps) ∙ forest-stepsOf f in
@@ -38,7 +38,7 @@ unfolding stepsIn
 holding p ss few full e = record { steps = e; number = sym (length-take-le (p .count) (p .steps) (omega arith)) ∙ ap length e; few = few; full = full }
 
 -- a pattern without steps holds none
-pub holds-none : (p : Pattern) → (patternOf p ≡ none) × SoundPattern p → (p .count ≡ 0) × (stepsIn p ≡ [])
+pub holds-none : (p : Pattern) → (patternOf p ≡ none) × WellFormed p → (p .count ≡ 0) × (stepsIn p ≡ [])
 unfolding stepsOf stepsFrom
 holds-none p h =
     let e : stepsIn p ≡ [] = sym (h .1 .written) ∙ ap stepsOf (h .0) in
@@ -47,13 +47,13 @@ holds-none p h =
 -- ---- one step more
 
 -- a step after others
-unfoldable pub after : List Step → Step → List Step
-after ss s = ss ++ (s ∷ [])
+unfoldable pub stepAfter : List Step → Step → List Step
+stepAfter ss s = ss ++ (s ∷ [])
 
 -- a pattern with one step more
 pub one-more : (p : Pattern) (s : Step) (t : Pattern) → p .count < 16 → length (p .steps) ≡ 16 → t .count ≡ p .count + 1 → t .steps ≡ set (p .steps) (p .count) s
-    → Holds t (after (stepsIn p) s)
-unfolding stepsIn after
+    → Holds t (stepAfter (stepsIn p) s)
+unfolding stepsIn stepAfter
 one-more p s t room full c e =
     let taken : take (t .count) (t .steps) ≡ take (p .count) (p .steps) ++ (s ∷ []) = rw (c, add-one, e) (take-suc-set (p .steps) (p .count) s (omega arith)) in
     holding t _ (omega arith) (ap length e ∙ length-set (p .steps) (p .count) s ∙ full) taken

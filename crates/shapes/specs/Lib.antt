@@ -1,5 +1,5 @@
 pub mod Shapes
 pub mod Steps
 pub mod Holding
-pub mod Tables
+pub mod TableValues
 pub mod Summing

@@ -23,7 +23,7 @@ patternOf p = forest (stepsIn p)
 
 -- a pattern that is well formed: its steps are those of its forest, as they are written, so they stand in preorder, each
 -- with a parent above it and an axis 0 or 1
-pub record SoundPattern (p : Pattern) : Type 0 where
+pub record WellFormed (p : Pattern) : Type 0 where
   pub few : p .count ≤ mostSteps
   pub full : length (p .steps) ≡ 16
   pub written : stepsOf (patternOf p) ≡ stepsIn p
@@ -33,7 +33,7 @@ unfoldable pub noSteps : Pattern
 noSteps = record { count = 0; steps = replicate 16 (record { parent = 0; axis = 0; label = 0 }) }
 
 -- it stands for no step, and is well formed
-pub no-steps-stand : (p : Pattern) → p ≡ noSteps → (patternOf p ≡ none) × SoundPattern p
+pub no-steps-stand : (p : Pattern) → p ≡ noSteps → (patternOf p ≡ none) × WellFormed p
 unfolding noSteps patternOf stepsIn forest childrenIn stepsOf stepsFrom
 no-steps-stand p e = rw e (refl, record { few = omega arith; full = refl; written = refl })
 
@@ -47,10 +47,10 @@ entriesIn t = take (t .count) (t .entries)
 unfoldable pub tableOf : Table → List Sections.Entry
 tableOf t = map entryOf (entriesIn t)
 
-pub record SoundTable (t : Table) : Type 0 where
+pub record WellFormedTable (t : Table) : Type 0 where
   pub few : t .count ≤ mostEntries
   pub full : length (t .entries) ≡ 64
-  pub patterns : (e : Entry) → List·Memᴰ e (entriesIn t) → SoundPattern (e .pattern)
+  pub patterns : (e : Entry) → List·Memᴰ e (entriesIn t) → WellFormed (e .pattern)
 
 -- ---- nodes as they stand in bytes
 

@@ -14,7 +14,7 @@ use Rattle.laws.specs.Bridge.{length-stepsOf}
 use Rattle.laws.specs.Blocks.{Block, block-of}
 use Rattle.laws.specs.WrittenRising.{written-rises}
 use Rattle.laws.specs.Children.{childrenFrom, childrenOf, children-of-root, child-first, other-first, none-first, parent-before}
-use Rattle.shapes.specs.Shapes.{stepsIn, patternOf, SoundPattern}
+use Rattle.shapes.specs.Shapes.{stepsIn, patternOf, WellFormed}
 use Rattle.shapes.specs.declared.Pattern.{Pattern}
 
 -- the step at place k of a pattern's array, counted from 0
@@ -26,7 +26,7 @@ pub root-children : (p : Pattern) → childrenOf (stepsIn p) 0 ≡ patternOf p
 unfolding patternOf
 root-children p = children-of-root (stepsIn p)
 
-module _ (p : Pattern) (sound : SoundPattern p) where
+module _ (p : Pattern) (sound : WellFormed p) where
   -- as many steps are there as are counted
   pub length-steps : length (stepsIn p) ≡ p .count
   unfolding stepsIn

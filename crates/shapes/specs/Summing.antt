@@ -8,8 +8,8 @@ use lib.Seq.{take-all}
 use Rattle.base.specs.Lists.{total}
 use Rattle.base.specs.Mapping.{total-take-suc}
 use Rattle.meaning.specs.Building.{entryAt, entrySteps, stepsTogether}
-use Rattle.shapes.specs.Shapes.{tableOf, SoundTable}
-use Rattle.shapes.specs.Tables.{noEntry, length-table, entry-sound, steps-at}
+use Rattle.shapes.specs.Shapes.{tableOf, WellFormedTable}
+use Rattle.shapes.specs.TableValues.{noEntryValue, length-table, entry-sound, steps-at}
 use Rattle.shapes.specs.declared.Table.{Table}
 
 -- n steps in the first i entries
@@ -24,16 +24,16 @@ unfolding stepsTogether total
 sum-starts t = record { reached = omega arith; few = omega arith; sum = refl }
 
 -- with one entry more
-pub sum-goes-on : (t : Table) (i n : ℕ) → SoundTable t → i < t .count → Summed t i n → Summed t (i + 1) (n + getD (t .entries) i noEntry .pattern .count)
+pub sum-goes-on : (t : Table) (i n : ℕ) → WellFormedTable t → i < t .count → Summed t i n → Summed t (i + 1) (n + getD (t .entries) i noEntryValue .pattern .count)
 unfolding stepsTogether entryAt
-sum-goes-on t i n s h z = record { reached = omega arith; few = omega (arith, entry-sound t s i noEntry h .few, z .few); sum = sum }
+sum-goes-on t i n s h z = record { reached = omega arith; few = omega (arith, entry-sound t s i noEntryValue h .few, z .few); sum = sum }
   where
     more : total entrySteps (take (suc i) (tableOf t)) ≡ total entrySteps (take i (tableOf t)) + entrySteps (entryAt (tableOf t) i)
     more = total-take-suc entrySteps (tableOf t) i _ (omega (arith, length-table t s))
 
-    sum : n + getD (t .entries) i noEntry .pattern .count ≡ stepsTogether (take (i + 1) (tableOf t))
-    sum = rw (add-one i) (omega (arith, more, z .sum, steps-at t s i noEntry h))
+    sum : n + getD (t .entries) i noEntryValue .pattern .count ≡ stepsTogether (take (i + 1) (tableOf t))
+    sum = rw (add-one i) (omega (arith, more, z .sum, steps-at t s i noEntryValue h))
 
 -- after the last entry
-pub sum-ends : (t : Table) (i n : ℕ) → SoundTable t → t .count ≤ i → Summed t i n → n ≡ stepsTogether (tableOf t)
+pub sum-ends : (t : Table) (i n : ℕ) → WellFormedTable t → t .count ≤ i → Summed t i n → n ≡ stepsTogether (tableOf t)
 sum-ends t i n s h z = z .sum ∙ ap stepsTogether (take-all i (tableOf t) (omega (arith, length-table t s)))

@@ -5,7 +5,7 @@ use meaning::Step;
 ghost use mathlib.Core.Path.{_≡_};
 ghost use Prim.Native.Nat.{_≤_};
 ghost use Rattle.meaning.specs.Building.{stepsTogether};
-ghost use Rattle.shapes.specs.Shapes.{noSteps, tableOf, SoundTable};
+ghost use Rattle.shapes.specs.Shapes.{noSteps, tableOf, WellFormedTable};
 
 // A pattern: the first `count` of its steps, in preorder.
 pub struct Pattern {
@@ -41,7 +41,7 @@ pub fn no_steps() -> Pattern
 
 // The steps of all entries together.
 pub fn steps_together(t: Table) -> usize
-    requires { ⌜ SoundTable t ⌝ }
+    requires { ⌜ WellFormedTable t ⌝ }
     ensures { λ r. ⌜ (r ≡ stepsTogether (tableOf t)) × (r ≤ 1024) ⌝ }
 {
     let mut n = 0;

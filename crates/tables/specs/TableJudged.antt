@@ -15,12 +15,12 @@ use Rattle.meaning.specs.Numbers.{countOutside, mostEntries}
 use Rattle.meaning.specs.Forest.{Forest}
 use Rattle.meaning.specs.Sections.{Entry}
 use Rattle.meaning.specs.Building.{noEntry}
-use Rattle.shapes.specs.Shapes.{entryOf, SoundPattern}
+use Rattle.shapes.specs.Shapes.{entryOf, WellFormed}
 use Rattle.shapes.specs.declared.Entry as shapes
 use Rattle.places.specs.Answer.{passed, passed-on}
 use Rattle.places.specs.NumberRead.{numberIn}
-use Rattle.patterns.specs.Taken.{itself}
-use Rattle.patterns.specs.TakenRead.{taken-sound}
+use Rattle.subscriptions.specs.Taken.{itself}
+use Rattle.subscriptions.specs.TakenRead.{taken-sound}
 use Rattle.tables.specs.declared.Entries.{Entries}
 use Rattle.tables.specs.TableSection.{afterEntry, entryIn, entryTaken, tableAt, entryPlaces, tableEntries, entrySection, tableSection, tablePlace}
 use Rattle.places.specs.InTurn.{eachPlace}
@@ -30,7 +30,7 @@ pub record EntriesStand (t : List ℕ) (v : Entries) : Type 0 where
   pub few : v .count ≤ mostEntries
   pub counted : v .count ≡ length (tableAt t)
   pub taken : (i : ℕ) (d : Entry) → i < v .count
-      → (entryOf (entryTaken t (getD (v .places) i 0)) ≡ getD (tableAt t) i d) × SoundPattern ((entryTaken t (getD (v .places) i 0)) .pattern)
+      → (entryOf (entryTaken t (getD (v .places) i 0)) ≡ getD (tableAt t) i d) × WellFormed ((entryTaken t (getD (v .places) i 0)) .pattern)
 
 -- an entry of its members and pattern
 abbrev made : ℕ → Forest → Entry
@@ -53,7 +53,7 @@ module _ (s t : List ℕ) (y : ℕ) (h : tablePlace s t ≡ At y) where
 
   -- each is taken from its place as it was read, its pattern well formed
   entry-taken : (i : ℕ) (d : Entry) → i < getD t 0 0
-      → (entryOf (entryTaken t (getD ((tableEntries t) .places) i 0)) ≡ getD (tableAt t) i d) × SoundPattern ((entryTaken t (getD ((tableEntries t) .places) i 0)) .pattern)
+      → (entryOf (entryTaken t (getD ((tableEntries t) .places) i 0)) ≡ getD (tableAt t) i d) × WellFormed ((entryTaken t (getD ((tableEntries t) .places) i 0)) .pattern)
   unfolding tableEntries entryPlaces itself tableAt entrySection entryTaken entryIn entryOf
   entry-taken i d b =
       let n = getD t 0 0 in
@@ -78,5 +78,5 @@ module _ (s t : List ℕ) (y : ℕ) (h : tablePlace s t ≡ At y) where
 
 -- the entry by value at the i-th place is the i-th entry, its pattern well formed
 pub entry-here : (t : List ℕ) (v : Entries) → EntriesStand t v → (i : ℕ) (e : shapes.Entry) → i < v .count → e ≡ entryTaken t (getD (v .places) i 0)
-    → (entryOf e ≡ getD (tableAt t) i noEntry) × SoundPattern (e .pattern)
+    → (entryOf e ≡ getD (tableAt t) i noEntry) × WellFormed (e .pattern)
 entry-here t v stand i e l h = rw h (stand .taken i noEntry l)

@@ -17,7 +17,7 @@ use Rattle.places.specs.NumberRead.{numberIn}
 use Rattle.places.specs.Section.{Section, readAs, standsAs}
 use Rattle.reading.specs.SheetPlaces.{forestAt, afterPattern, sheetAt, labels-counted}
 use Rattle.reading.specs.SheetSection.{patternSection, sheetPlace}
-use Rattle.patterns.specs.Taken.{itself, patternAt}
+use Rattle.subscriptions.specs.Taken.{itself, patternAt}
 use Rattle.tables.specs.declared.Entries.{Entries}
 use Rattle.places.specs.Fields.{byteThen, numberThen, unlessThen, thenGiven, sectionThen, endThen}
 use Rattle.places.specs.InTurn.{repeated}
@@ -79,5 +79,5 @@ abbrev pub tablePlace : List ℕ → List ℕ → Cur
 tablePlace s t = tableSection s t .place
 
 -- where both end, the sheet judged first
-unfoldable pub bothPlace : List ℕ → List ℕ → Cur
-bothPlace s t = andThen (sheetPlace s) (λ x. tablePlace s t)
+unfoldable pub sheetTablePlace : List ℕ → List ℕ → Cur
+sheetTablePlace s t = andThen (sheetPlace s) (λ x. tablePlace s t)

@@ -4,21 +4,21 @@ use base::Cur;
 use meaning::COUNT_OUTSIDE;
 use meaning::ENDS_EARLY;
 use meaning::MOST_ENTRIES;
-use patterns::after_pattern;
-use patterns::pattern_at;
 use places::byte_at;
 use places::end;
 use places::pair_at;
 use reading::patterns::pattern;
 use reading::sheet;
 use shapes::Entry;
+use subscriptions::after_pattern;
+use subscriptions::pattern_at;
 ghost use mathlib.Core.Path.{_≡_};
 ghost use Prim.Native.Nat.{_+_, _*_, _-_, _<_};
 ghost use lib.Dec.{leb};
 ghost use lib.ListN.{length};
 ghost use Rattle.base.specs.Loops.{run};
 ghost use Rattle.places.specs.NumberRead.{numberIn};
-ghost use Rattle.tables.specs.TableSection.{entryPlace, entrySection, tablePlace, bothPlace, entryTaken, entryPlaces, tableEntries};
+ghost use Rattle.tables.specs.TableSection.{entryPlace, entrySection, tablePlace, sheetTablePlace, entryTaken, entryPlaces, tableEntries};
 ghost use Rattle.places.specs.InTurn.{eachPlace};
 ghost use Rattle.meaning.specs.Numbers.{mostEntries};
 
@@ -101,7 +101,7 @@ fn table(s: &[u8], t: &[u8]) -> Cur
 
 // The sheet first, then the table.
 pub fn both(s: &[u8], t: &[u8]) -> Cur
-    ensures { λ r. ⌜ r ≡ bothPlace (now (s .entry)) (now (t .entry)) ⌝ }
+    ensures { λ r. ⌜ r ≡ sheetTablePlace (now (s .entry)) (now (t .entry)) ⌝ }
 {
     match sheet(s) {
         Cur::At(x) => table(s, t),

@@ -10,7 +10,7 @@ use lib.Dec.{ltb}
 use lib.ListN.{length, length-append}
 use Rattle.base.specs.Choice.{pick}
 use Rattle.meaning.specs.Printing.{decimalIn, decimal}
-use Rattle.texts.specs.Output.{Written, putByte, put, put-one, put-then}
+use Rattle.texts.specs.PutText.{Written, putByte, put, put-one, put-then}
 
 -- more digits than it can have change nothing
 enough : (j k n : ℕ) → n < j → n < k → decimalIn j n ≡ decimalIn k n

@@ -1,5 +1,5 @@
-pub mod Output
+pub mod PutText
 pub mod Decimals
 pub mod Wanted
 pub mod StepTexts
-pub mod Branches
+pub mod BranchTexts

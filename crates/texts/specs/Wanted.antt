@@ -3,7 +3,7 @@ use Prim.Native.Nat.{ℕ}
 use mathlib.Core.Path.{_≡_, refl}
 use mathlib.Core.Bool.{Bool, true, false, true≢false, false≢true}
 use mathlib.Core.List.{List, [], _∷_}
-use Rattle.texts.specs.Output.{Written, putByte, put}
+use Rattle.texts.specs.PutText.{Written, putByte, put}
 
 -- the byte, or nothing
 unfoldable pub byteIf : Bool → ℕ → List ℕ

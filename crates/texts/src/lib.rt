@@ -4,7 +4,7 @@ pub mod pattern; // pattern.rt: a pattern as text
 ghost use mathlib.Core.Path.{_≡_};
 ghost use mathlib.Core.List.{_++_};
 ghost use Rattle.meaning.specs.Printing.{decimal, refusedText};
-ghost use Rattle.texts.specs.Output.{written, putByte, put};
+ghost use Rattle.texts.specs.PutText.{written, putByte, put};
 ghost use Rattle.texts.specs.Wanted.{byteIf};
 
 // A byte, if there is room for it; the next place.

@@ -10,10 +10,10 @@ ghost use mathlib.Core.Path.{_≡_};
 ghost use Rattle.meaning.specs.Forest.{axisOf};
 ghost use Rattle.meaning.specs.Printing.{axisText, labelText, several, patternText};
 ghost use Rattle.laws.specs.Children.{childrenOf};
-ghost use Rattle.shapes.specs.Shapes.{stepsIn, patternOf, SoundPattern};
-ghost use Rattle.texts.specs.Output.{written, put};
+ghost use Rattle.shapes.specs.Shapes.{stepsIn, patternOf, WellFormed};
+ghost use Rattle.texts.specs.PutText.{written, put};
 ghost use Rattle.texts.specs.StepTexts.{labelsIn};
-ghost use Rattle.texts.specs.Branches.{belowText, stepText};
+ghost use Rattle.texts.specs.BranchTexts.{belowText, stepText};
 
 // An axis: / near, // far; the next place.
 fn put_axis(out: &mut [u8], at: usize, axis: u8) -> usize
@@ -49,7 +49,7 @@ fn put_step(out: &mut [u8], at: usize, s: &[u8], x: Step) -> usize
 
 // Several branches below step v of a pattern, or below its root, which is 0.
 fn several_below(p: Pattern, v: usize) -> bool
-    requires { ⌜ SoundPattern p ⌝ }
+    requires { ⌜ WellFormed p ⌝ }
     ensures { λ r. ⌜ r ≡ several (childrenOf (stepsIn p) v) ⌝ }
 {
     let mut n: usize = 0;
@@ -66,7 +66,7 @@ fn several_below(p: Pattern, v: usize) -> bool
 
 // The branches below step v of a pattern, or below its root, which is 0: several stand in brackets; the next place.
 fn put_below(out: &mut [u8], at: usize, s: &[u8], p: Pattern, v: usize) -> usize
-    requires { ⌜ SoundPattern p ⌝ }
+    requires { ⌜ WellFormed p ⌝ }
     ensures { λ r. ⌜ written (now (out .exit)) r ≡ put (written (now (out .entry)) at) (belowText (labelsIn (now (s .entry))) (childrenOf (stepsIn p) v)) ⌝ }
 {
     let many = several_below(p, v);
@@ -87,7 +87,7 @@ fn put_below(out: &mut [u8], at: usize, s: &[u8], p: Pattern, v: usize) -> usize
 
 // A pattern, a dot where it has no steps; the next place.
 pub fn put_pattern(out: &mut [u8], at: usize, s: &[u8], p: Pattern) -> usize
-    requires { ⌜ SoundPattern p ⌝ }
+    requires { ⌜ WellFormed p ⌝ }
     ensures { λ r. ⌜ written (now (out .exit)) r ≡ put (written (now (out .entry)) at) (patternText (labelsIn (now (s .entry))) (patternOf p)) ⌝ }
 {
     if p.count == 0 {

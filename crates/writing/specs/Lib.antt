@@ -1,2 +1,2 @@
-pub mod Output
-pub mod Bytes
+pub mod OutputAfter
+pub mod BytesWritten

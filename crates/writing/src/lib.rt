@@ -10,13 +10,13 @@ ghost use lib.Dec.{leb};
 ghost use lib.ListN.{length};
 ghost use lib.Seq.{sets};
 ghost use Rattle.meaning.specs.Written.{stepBytes, patternBytes, tableBytes};
-ghost use Rattle.shapes.specs.Shapes.{patternOf, tableOf, SoundPattern, SoundTable};
-ghost use Rattle.writing.specs.Bytes.{bytesOf};
-ghost use Rattle.writing.specs.Output.{writtenOver};
+ghost use Rattle.shapes.specs.Shapes.{patternOf, tableOf, WellFormed, WellFormedTable};
+ghost use Rattle.writing.specs.BytesWritten.{bytesOf};
+ghost use Rattle.writing.specs.OutputAfter.{writtenOver};
 
 // How many bytes a pattern takes.
 pub fn pattern_length(p: Pattern) -> usize
-    requires { ⌜ SoundPattern p ⌝ }
+    requires { ⌜ WellFormed p ⌝ }
     ensures { λ r. ⌜ (r ≡ length (patternBytes (patternOf p))) × (r ≤ 49) ⌝ }
 {
     1 + 3 * p.count
@@ -34,7 +34,7 @@ fn put_step(out: &mut [u8], at: usize, s: Step)
 
 // A step count and the steps, from a place on; the place behind them.
 fn put_pattern(out: &mut [u8], at: usize, p: Pattern) -> usize
-    requires { ⌜ SoundPattern p × (at + length (patternBytes (patternOf p)) ≤ length (now out)) ⌝ }
+    requires { ⌜ WellFormed p × (at + length (patternBytes (patternOf p)) ≤ length (now out)) ⌝ }
     ensures { λ r. ⌜ (r ≡ at + length (patternBytes (patternOf p))) × (now (out .exit) ≡ sets (now (out .entry)) at (patternBytes (patternOf p))) ⌝ }
 {
     out[at] = p.count as u8;
@@ -50,7 +50,7 @@ fn put_pattern(out: &mut [u8], at: usize, p: Pattern) -> usize
 
 // An entry's members and pattern, from a place on; the place behind them.
 fn put_entry(out: &mut [u8], at: usize, e: Entry) -> usize
-    requires { ⌜ SoundPattern (e .pattern) × (at + length (bytesOf e) ≤ length (now out)) ⌝ }
+    requires { ⌜ WellFormed (e .pattern) × (at + length (bytesOf e) ≤ length (now out)) ⌝ }
     ensures { λ r. ⌜ (r ≡ at + length (bytesOf e)) × (now (out .exit) ≡ sets (now (out .entry)) at (bytesOf e)) ⌝ }
 {
     put_members(out, at, e.members);
@@ -59,7 +59,7 @@ fn put_entry(out: &mut [u8], at: usize, e: Entry) -> usize
 
 // Writes a pattern where there is room for it, and says whether there was.
 pub fn write_pattern(out: &mut [u8], p: Pattern) -> bool
-    requires { ⌜ SoundPattern p ⌝ }
+    requires { ⌜ WellFormed p ⌝ }
     ensures { λ r. ⌜ (r ≡ leb (length (patternBytes (patternOf p))) (length (now (out .entry)))) × (now (out .exit) ≡ writtenOver (now (out .entry)) (patternBytes (patternOf p))) ⌝ }
 {
     if pattern_length(p) > out.len() {
@@ -71,7 +71,7 @@ pub fn write_pattern(out: &mut [u8], p: Pattern) -> bool
 
 // How many bytes a table takes.
 pub fn table_length(t: Table) -> usize
-    requires { ⌜ SoundTable t ⌝ }
+    requires { ⌜ WellFormedTable t ⌝ }
     ensures { λ r. ⌜ (r ≡ length (tableBytes (tableOf t))) × (r ≤ 3649) ⌝ }
 {
     let mut long = 1;
@@ -86,7 +86,7 @@ pub fn table_length(t: Table) -> usize
 
 // A count and the entries, from the output's start.
 fn put_table(out: &mut [u8], t: Table)
-    requires { ⌜ SoundTable t × (length (tableBytes (tableOf t)) ≤ length (now out)) ⌝ }
+    requires { ⌜ WellFormedTable t × (length (tableBytes (tableOf t)) ≤ length (now out)) ⌝ }
     ensures { λ r. ⌜ now (out .exit) ≡ sets (now (out .entry)) 0 (tableBytes (tableOf t)) ⌝ }
 {
     out[0] = t.count as u8;
@@ -100,7 +100,7 @@ fn put_table(out: &mut [u8], t: Table)
 
 // Writes a table where there is room for it, and says whether there was.
 pub fn write_table(out: &mut [u8], t: Table) -> bool
-    requires { ⌜ SoundTable t ⌝ }
+    requires { ⌜ WellFormedTable t ⌝ }
     ensures { λ r. ⌜ (r ≡ leb (length (tableBytes (tableOf t))) (length (now (out .entry)))) × (now (out .exit) ≡ writtenOver (now (out .entry)) (tableBytes (tableOf t))) ⌝ }
 {
     if table_length(t) > out.len() {

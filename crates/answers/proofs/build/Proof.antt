@@ -7,20 +7,8 @@ use borrow.Author.Needs.{needs}
 use Rattle.answers.proofs.build.Statement.{statement}
 use Rattle.answers.proofs.build.Tie as tie
 
-sheet-requires : tie.Need-sheet-requires
-sheet-requires c κs = search needs
-
-enum-known-x : tie.Need-enum-known-x
-enum-known-x c = search needs
-
 build-first-requires : tie.Need-build-first-requires
 build-first-requires c κs = sheet-stands _ _ (sym (c .before .before .before .before .sheet .ensures) ∙ c .before .before .x .given .1)
-
-enum-known-n : tie.Need-enum-known-n
-enum-known-n c = search needs
-
-same-length : tie.Need-same-length
-same-length c = search needs
 
 returns : tie.Need-returns
 returns c =
@@ -31,13 +19,5 @@ returns-2 : tie.Need-returns-2
 returns-2 c = build-refuses _ _ _ (build-refused _ _ _ (sym (c .before .before .before .sheet .ensures) ∙ c .before .n .given .1))
 
 pub build-spec : {M : Type 1} → statement M
-build-spec =
-    tie.close
-    (tie.spec
-    sheet-requires
-    enum-known-x
-    build-first-requires
-    enum-known-n
-    same-length
-    returns
-    returns-2)
+build-spec = tie.close (tie.spec (λ c κs. search needs) (λ c. search needs) build-first-requires (λ c. search needs)
+    (λ c. search needs) returns returns-2)

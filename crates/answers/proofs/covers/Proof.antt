@@ -6,17 +6,8 @@ use borrow.Author.Needs.{needs}
 use Rattle.answers.proofs.covers.Statement.{statement}
 use Rattle.answers.proofs.covers.Tie as tie
 
-sheet-requires : tie.Need-sheet-requires
-sheet-requires c κs = search needs
-
-enum-known-x : tie.Need-enum-known-x
-enum-known-x c = search needs
-
 covers-numbered-requires : tie.Need-covers-numbered-requires
 covers-numbered-requires c κs = sheet-stands _ _ (sym (c .before .before .before .sheet .ensures) ∙ c .before .x .given .1)
-
-enum-known-n : tie.Need-enum-known-n
-enum-known-n c = search needs
 
 returns : tie.Need-returns
 returns c =
@@ -28,4 +19,5 @@ returns-2 c = covers-refused _ _ _ _ (sym (c .before .before .before .sheet .ens
 pub covers-spec : {M : Type 1} → statement M
 covers-spec =
     tie.close
-    (tie.spec sheet-requires enum-known-x covers-numbered-requires enum-known-n returns returns-2)
+    (tie.spec (λ c κs. search needs) (λ c. search needs) covers-numbered-requires (λ c. search needs) returns
+    returns-2)

@@ -7,20 +7,8 @@ use borrow.Author.Needs.{needs}
 use Rattle.answers.proofs.merge.Statement.{statement}
 use Rattle.answers.proofs.merge.Tie as tie
 
-sheet-requires : tie.Need-sheet-requires
-sheet-requires c κs = search needs
-
-enum-known-x : tie.Need-enum-known-x
-enum-known-x c = search needs
-
 merge-numbered-requires : tie.Need-merge-numbered-requires
 merge-numbered-requires c κs = sheet-stands _ _ (sym (c .before .before .before .before .sheet .ensures) ∙ c .before .before .x .given .1)
-
-enum-known-n : tie.Need-enum-known-n
-enum-known-n c = search needs
-
-same-length : tie.Need-same-length
-same-length c = search needs
 
 returns : tie.Need-returns
 returns c =
@@ -33,11 +21,5 @@ returns-2 c = merge-refuses _ _ _ (merge-refused _ _ _ _ (sym (c .before .before
 pub merge-spec : {M : Type 1} → statement M
 merge-spec =
     tie.close
-    (tie.spec
-    sheet-requires
-    enum-known-x
-    merge-numbered-requires
-    enum-known-n
-    same-length
-    returns
-    returns-2)
+    (tie.spec (λ c κs. search needs) (λ c. search needs) merge-numbered-requires (λ c. search needs)
+    (λ c. search needs) returns returns-2)

@@ -5,14 +5,14 @@ use borrow.Author.Needs.{needs}
 use Prim.Native.Nat.{_≤_}
 use Rattle.meaning.specs.Building.{stepsTogether}
 use Rattle.laws.specs.Rounds.{round-saves}
-use Rattle.shapes.specs.Shapes.{tableOf, SoundTable}
+use Rattle.shapes.specs.Shapes.{tableOf, WellFormedTable}
 use Rattle.building.specs.Counting.{buildSettled, buildFrom, InRounds, rounds-start, rounds-go-on, rounds-end}
 use Rattle.building.proofs.build.Statement.{statement}
 use Rattle.building.proofs.build.Tie as tie
 
 abbrev Inv-loop : tie.InvT-loop
 Inv-loop limit most m₀ left₀ m left =
-    InRounds most (tableOf (m₀ .table)) (m .rounds) (tableOf (m .table)) × SoundTable (m .table)
+    InRounds most (tableOf (m₀ .table)) (m .rounds) (tableOf (m .table)) × WellFormedTable (m .table)
     × (left ≡ stepsTogether (tableOf (m .table))) × (stepsTogether (tableOf (m₀ .table)) ≤ 1024)
 
 abbrev μ-loop : tie.MeasureT-loop

@@ -8,9 +8,9 @@ use borrow.Fn.Kinds.{In, Out}
 use borrow.Fn.PlainCycle.{Measures, is, falls, and}
 use Rattle.shapes.specs.Shapes.{stepsIn}
 use Rattle.shapes.specs.Steps.{stepIn, step-number}
-use Rattle.covering.specs.Notes.{Noted, PairOfSteps, known-lies, known-doesn't, children-decide}
-use Rattle.covering.specs.Turns.{Laying, laying-starts, child-lies, child-doesn't, no-child, all-lay}
-use Rattle.covering.specs.Turns.{Fitting, search-starts, block-ends, place-fits, place-doesn't, steps-done}
+use Rattle.covering.specs.PairNotes.{Noted, PairOfSteps, known-lies, known-doesn't, children-decide}
+use Rattle.covering.specs.LayingLoops.{LayingChildren, laying-starts, child-lies, child-doesn't, no-child, all-lay}
+use Rattle.covering.specs.LayingLoops.{Fitting, search-starts, block-ends, place-fits, place-doesn't, steps-done}
 use Rattle.covering.proofs.all_lie.Reads as all-lie
 use Rattle.covering.proofs.all_lie.Kinds as all-lie-kinds
 use Rattle.covering.proofs.+all_lie+some_fits.Lts-all_lie as all-lie-lts
@@ -44,7 +44,7 @@ some-fits-below t = and 1 some-fits-kinds.ps (falls 1 some-fits-kinds.ps _<_ μ-
 
 -- ---- all_lie: the children from place k on lie exactly if all do
 abbrev all-lie-Inv-loop : all-lie-lts.InvT-loop
-all-lie-Inv-loop v b w notes₀ a k₀ notes k = Noted a b notes × Laying a v (stepsIn b) w k
+all-lie-Inv-loop v b w notes₀ a k₀ notes k = Noted a b notes × LayingChildren a v (stepsIn b) w k
 
 abbrev all-lie-μ-loop : all-lie-lts.MeasureT-loop
 all-lie-μ-loop v b w notes₀ a k₀ notes k = a .count - k

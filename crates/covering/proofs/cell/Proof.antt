@@ -1,6 +1,6 @@
 -- `cell` meets its contract.
 use borrow.Author.Needs.{needs}
-use Rattle.covering.specs.Notes.{cellOf}
+use Rattle.covering.specs.PairNotes.{cellOf}
 use Rattle.covering.proofs.cell.Statement.{statement}
 use Rattle.covering.proofs.cell.Tie as tie
 

@@ -1,5 +1,5 @@
 -- `covers` meets its contract: nothing is noted yet.
-use Rattle.covering.specs.Notes.{nothing-noted}
+use Rattle.covering.specs.PairNotes.{nothing-noted}
 use Rattle.covering.proofs.covers.Statement.{statement}
 use Rattle.covering.proofs.covers.Tie as tie
 

@@ -1,8 +1,8 @@
 -- `lies_at` meets its contract: as known, or else what the children answer.
 use native.Mathlib.Omega.{arith}
 use Rattle.shapes.specs.Steps.{stepIn}
-use Rattle.covering.specs.Notes.{known-lies, known-doesn't, children-decide}
-use Rattle.covering.specs.Turns.{label-and-children}
+use Rattle.covering.specs.PairNotes.{known-lies, known-doesn't, children-decide}
+use Rattle.covering.specs.LayingLoops.{label-and-children}
 use borrow.Author.Needs.{needs}
 use Rattle.covering.proofs.lies_at.Statement.{statement}
 use Rattle.covering.proofs.lies_at.Tie as tie

@@ -12,9 +12,6 @@ returns c =
     let t = c .before .before .before .before .args .t in
     near-on-far (s .axis) (s .label) (t .axis) (t .label) (c .before .before .if1 .taken) (c .if2 .taken)
 
-any-or-same-requires : tie.Need-any-or-same-requires
-any-or-same-requires c κs = search needs
-
 returns-2 : tie.Need-returns-2
 returns-2 c =
     let s = c .before .before .before .args .s in
@@ -23,4 +20,4 @@ returns-2 c =
     ∙ labels-decide (s .axis) (s .label) (t .axis) (t .label) (⊎-elim (λ h. inl (h .2 .left)) (λ h. inr (h .left)) (c .before .if1 .came))
 
 pub may-lie-spec : {M : Type 1} → statement M
-may-lie-spec = tie.close (tie.spec returns any-or-same-requires returns-2)
+may-lie-spec = tie.close (tie.spec returns (λ c κs. search needs) returns-2)

@@ -7,18 +7,12 @@ use borrow.Author.Needs.{needs}
 use Rattle.covering.proofs.may_lie_below.Statement.{statement}
 use Rattle.covering.proofs.may_lie_below.Tie as tie
 
-cast-if2 : tie.Need-cast-if2
-cast-if2 c = search needs
-
 returns : tie.Need-returns
 unfolding mayLieBelow
 returns c =
     let s = c .before .before .before .before .args .s in
     let t = c .before .before .before .before .args .t in
     near-elsewhere (s .axis) (c .before .before .before .before .args .w) (t .parent) _ (c .before .before .if1 .taken) (c .if2 .taken)
-
-may-lie-requires : tie.Need-may-lie-requires
-may-lie-requires c κs = search needs
 
 returns-2 : tie.Need-returns-2
 unfolding mayLieBelow
@@ -29,4 +23,4 @@ returns-2 c =
     ∙ within-reach (s .axis) (c .before .before .before .args .w) (t .parent) _ (⊎-elim (λ h. inl (h .2 .left)) (λ h. inr (h .left)) (c .before .if1 .came))
 
 pub may-lie-below-spec : {M : Type 1} → statement M
-may-lie-below-spec = tie.close (tie.spec cast-if2 returns may-lie-requires returns-2)
+may-lie-below-spec = tie.close (tie.spec (λ c. search needs) returns (λ c κs. search needs) returns-2)

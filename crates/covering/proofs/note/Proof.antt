@@ -2,15 +2,9 @@
 use mathlib.Core.Path.{_≡_, refl}
 use mathlib.Core.Logic.{⊎-elim}
 use borrow.Author.Needs.{needs}
-use Rattle.covering.specs.Notes.{noteOf}
+use Rattle.covering.specs.PairNotes.{noteOf}
 use Rattle.covering.proofs.note.Statement.{statement}
 use Rattle.covering.proofs.note.Tie as tie
-
-cell-requires : tie.Need-cell-requires
-cell-requires c κs = search needs
-
-element-write-notes : tie.Need-element-write-notes
-element-write-notes c = search needs
 
 returns : tie.Need-returns
 unfolding noteOf
@@ -20,4 +14,4 @@ returns c =
     (refl, cc)
 
 pub note-spec : {M : Type 1} → statement M
-note-spec = tie.close (tie.spec cell-requires element-write-notes returns)
+note-spec = tie.close (tie.spec (λ c κs. search needs) (λ c. search needs) returns)

@@ -7,15 +7,6 @@ use Rattle.documents.proofs.document_number.Statement.{statement}
 use Rattle.documents.proofs.document_number.Tie as tie
 use Rattle.documents.specs.DocumentJudged.{document-number}
 
-both-requires : tie.Need-both-requires
-both-requires c κs = search needs
-
-enum-known-x : tie.Need-enum-known-x
-enum-known-x c = search needs
-
-enum-known-m : tie.Need-enum-known-m
-enum-known-m c = search needs
-
 returns : tie.Need-returns
 unfolding numberAt
 returns c =
@@ -30,4 +21,5 @@ returns-2 c =
 
 pub document-number-spec : {M : Type 1} → statement M
 document-number-spec =
-    tie.close (tie.spec both-requires enum-known-x enum-known-m returns returns-2)
+    tie.close
+    (tie.spec (λ c κs. search needs) (λ c. search needs) (λ c. search needs) returns returns-2)

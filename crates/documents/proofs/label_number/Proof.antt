@@ -7,33 +7,15 @@ use Rattle.documents.proofs.label_number.Statement.{statement}
 use Rattle.documents.proofs.label_number.Tie as tie
 use Rattle.documents.specs.LabelNumbers.{number-there, number-zero, number-over, number-refused}
 
-both-requires : tie.Need-both-requires
-both-requires c κs = search needs
-
-enum-known-x : tie.Need-enum-known-x
-enum-known-x c = search needs
-
 returns : tie.Need-returns
 returns c =
     let a = c .before .before .before .before .before .before .before .args in
     number-zero (now (a .s)) (now (a .d)) (a .n) (c .before .before .x .given .0 .0) (sym (c .before .before .before .before .both .ensures) ∙ c .before .before .x .given .1) (omega arith)
 
-byte-at-requires : tie.Need-byte-at-requires
-byte-at-requires c κs = search needs
-
-byte-at-requires-2 : tie.Need-byte-at-requires-2
-byte-at-requires-2 c κs = search needs
-
-add-all : tie.Need-add-all
-add-all c = search needs
-
 returns-2 : tie.Need-returns-2
 returns-2 c =
     let a = c .before .before .before .before .before .before .before .before .before .before .args in
     number-over (now (a .s)) (now (a .d)) (a .n) (c .before .before .before .before .before .x .given .0 .0) (sym (c .before .before .before .before .before .before .before .both .ensures) ∙ c .before .before .before .before .before .x .given .1) (omega arith) (omega arith)
-
-enum-known-m : tie.Need-enum-known-m
-enum-known-m c = search needs
 
 returns-3 : tie.Need-returns-3
 returns-3 c =
@@ -48,14 +30,5 @@ returns-4 c =
 pub label-number-spec : {M : Type 1} → statement M
 label-number-spec =
     tie.close
-    (tie.spec
-    both-requires
-    enum-known-x
-    returns
-    byte-at-requires
-    byte-at-requires-2
-    add-all
-    returns-2
-    enum-known-m
-    returns-3
-    returns-4)
+    (tie.spec (λ c κs. search needs) (λ c. search needs) returns (λ c κs. search needs) (λ c κs. search needs)
+    (λ c. search needs) returns-2 (λ c. search needs) returns-3 returns-4)

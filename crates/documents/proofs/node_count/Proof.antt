@@ -4,19 +4,9 @@ use Rattle.documents.proofs.node_count.Statement.{statement}
 use Rattle.documents.proofs.node_count.Tie as tie
 use Rattle.documents.specs.DocumentSection.{nodeCountAt}
 
-byte-at-requires : tie.Need-byte-at-requires
-byte-at-requires c κs = search needs
-
-after-labels-requires : tie.Need-after-labels-requires
-after-labels-requires c κs = search needs
-
-pair-at-requires : tie.Need-pair-at-requires
-pair-at-requires c κs = search needs
-
 returns : tie.Need-returns
 unfolding nodeCountAt
 returns c = (rw (← (c .before .before .byte-at .ensures .0), ← (c .before .after-labels .ensures .0)) (c .pair-at .ensures .0), c .pair-at .ensures .1)
 
 pub node-count-spec : {M : Type 1} → statement M
-node-count-spec =
-    tie.close (tie.spec byte-at-requires after-labels-requires pair-at-requires returns)
+node-count-spec = tie.close (tie.spec (λ c κs. search needs) (λ c κs. search needs) (λ c κs. search needs) returns)

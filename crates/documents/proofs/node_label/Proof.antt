@@ -9,9 +9,6 @@ returns : tie.Need-returns
 unfolding nodeLabel
 returns c = search picks depth 15
 
-byte-at-requires : tie.Need-byte-at-requires
-byte-at-requires c κs = search needs
-
 returns-2 : tie.Need-returns-2
 unfolding nodeLabel
 returns-2 c = rw (← (c .before .byte-at .ensures .0)) (search picks depth 15)
@@ -20,13 +17,11 @@ returns-3 : tie.Need-returns-3
 unfolding nodeLabel
 returns-3 c = rw (← (c .before .before .byte-at .ensures .0)) (search picks depth 15)
 
-add-t5 : tie.Need-add-t5
-add-t5 c = search needs
-
 returns-4 : tie.Need-returns-4
 unfolding nodeLabel
 returns-4 c = rw (← (c .before .before .byte-at .ensures .0)) (search picks depth 15)
 
 pub node-label-spec : {M : Type 1} → statement M
 node-label-spec =
-    tie.close (tie.spec returns byte-at-requires returns-2 returns-3 add-t5 returns-4)
+    tie.close
+    (tie.spec returns (λ c κs. search needs) returns-2 returns-3 (λ c. search needs) returns-4)

@@ -28,9 +28,6 @@ mul-members-at c = omega (arith, c .before .before .before .pre .0 .few)
 element-copy-out-members-at : tie.Need-element-copy-out-members-at Inv-loop μ-loop
 element-copy-out-members-at c = omega (arith, c .before .before .before .pre .0 .few)
 
-members-at-requires : tie.Need-members-at-requires Inv-loop μ-loop
-members-at-requires c κs = search needs
-
 members-fit-requires : tie.Need-members-fit-requires Inv-loop μ-loop
 members-fit-requires c κs = c .before .before .before .before .before .pre .1
 
@@ -44,9 +41,6 @@ returns c =
 
 add-j : tie.Need-add-j Inv-loop μ-loop
 add-j c = omega (arith, c .before .before .before .before .before .before .before .pre .0 .few)
-
-loop-less : tie.Need-loop-less Inv-loop μ-loop
-loop-less c = omega arith
 
 loop-again : tie.Need-loop-again Inv-loop μ-loop
 unfolding entryTaken
@@ -64,16 +58,5 @@ returns-2 c = every-ends _ _ noEntry (c .before .loop .j) _ (c .before .loop .in
 pub all-fit-spec : {M : Type 1} → statement M
 all-fit-spec =
     tie.close
-    (tie.spec
-    Inv-loop
-    μ-loop
-    loop-holds
-    mul-members-at
-    element-copy-out-members-at
-    members-at-requires
-    members-fit-requires
-    returns
-    add-j
-    loop-less
-    loop-again
-    returns-2)
+    (tie.spec Inv-loop μ-loop loop-holds mul-members-at element-copy-out-members-at (λ c κs. search needs)
+    members-fit-requires returns add-j (λ c. omega arith) loop-again returns-2)

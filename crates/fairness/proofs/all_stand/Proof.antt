@@ -7,7 +7,7 @@ use borrow.Author.Tests.{not-true, not-false}
 use lib.ListN.{drop}
 use Rattle.meaning.specs.Fair.{eachInOne}
 use Rattle.reading.specs.SheetPlaces.{sheetAt}
-use Rattle.patterns.specs.Subscribed.{pattern-here}
+use Rattle.subscriptions.specs.Subscribed.{pattern-here}
 use Rattle.fairness.specs.Each.{each-goes-on, each-stops, each-ends}
 use Rattle.fairness.proofs.all_stand.Statement.{statement}
 use Rattle.fairness.proofs.all_stand.Tie as tie
@@ -29,9 +29,6 @@ mul-pattern-at c = omega (arith, c .before .before .before .before .pre .0 .few)
 element-copy-out-pattern-at : tie.Need-element-copy-out-pattern-at Inv-loop μ-loop
 element-copy-out-pattern-at c = omega (arith, c .before .before .before .before .pre .0 .few)
 
-pattern-at-requires : tie.Need-pattern-at-requires Inv-loop μ-loop
-pattern-at-requires c κs = search needs
-
 stands-requires : tie.Need-stands-requires Inv-loop μ-loop
 stands-requires c κs =
     let l = c .before .before .before in
@@ -49,9 +46,6 @@ returns c =
 add-i : tie.Need-add-i Inv-loop μ-loop
 add-i c = omega (arith, c .before .before .before .before .before .before .before .before .pre .0 .few)
 
-loop-less : tie.Need-loop-less Inv-loop μ-loop
-loop-less c = omega arith
-
 loop-again : tie.Need-loop-again Inv-loop μ-loop
 loop-again c =
     let l = c .before .before .before .before .before in
@@ -68,16 +62,5 @@ returns-2 c = each-ends _ _ (c .before .loop .i) _ (c .before .loop .inv .1) (om
 pub all-stand-spec : {M : Type 1} → statement M
 all-stand-spec =
     tie.close
-    (tie.spec
-    Inv-loop
-    μ-loop
-    loop-holds
-    mul-pattern-at
-    element-copy-out-pattern-at
-    pattern-at-requires
-    stands-requires
-    returns
-    add-i
-    loop-less
-    loop-again
-    returns-2)
+    (tie.spec Inv-loop μ-loop loop-holds mul-pattern-at element-copy-out-pattern-at (λ c κs. search needs)
+    stands-requires returns add-i (λ c. omega arith) loop-again returns-2)

@@ -1,26 +1,14 @@
 -- `fairness::fair_table` meets its contract: the bytes of both first, 12 last.
 use mathlib.Core.Path.{sym, _∙_}
 use borrow.Author.Needs.{needs}
-use Rattle.fairness.specs.FairJudged.{both-stand, place-fair, place-not-fair, place-refused}
+use Rattle.fairness.specs.FairJudged.{sheet-table-stand, place-fair, place-not-fair, place-refused}
 use Rattle.fairness.proofs.fair_table.Statement.{statement}
 use Rattle.fairness.proofs.fair_table.Tie as tie
-
-both-requires : tie.Need-both-requires
-both-requires c κs = search needs
-
-enum-known-x : tie.Need-enum-known-x
-enum-known-x c = search needs
-
-subscriptions-in-requires : tie.Need-subscriptions-in-requires
-subscriptions-in-requires c κs = search needs
-
-entries-in-requires : tie.Need-entries-in-requires
-entries-in-requires c κs = search needs
 
 is-fair-requires : tie.Need-is-fair-requires
 is-fair-requires c κs =
     let x = c .before .before .before in
-    both-stand _ _ _ _ _ (sym (x .before .before .both .ensures) ∙ x .x .given .1) (c .before .subscriptions-in .ensures) (c .entries-in .ensures)
+    sheet-table-stand _ _ _ _ _ (sym (x .before .before .both .ensures) ∙ x .x .given .1) (c .before .subscriptions-in .ensures) (c .entries-in .ensures)
 
 returns : tie.Need-returns
 returns c =
@@ -32,22 +20,11 @@ returns-2 c =
     let x = c .before .before .before .before .before in
     place-not-fair _ _ _ _ (sym (x .before .before .both .ensures) ∙ x .x .given .1) (c .before .is-fair .ensures) (c .if1 .left)
 
-enum-known-m : tie.Need-enum-known-m
-enum-known-m c = search needs
-
 returns-3 : tie.Need-returns-3
 returns-3 c = place-refused _ _ _ (sym (c .before .before .before .both .ensures) ∙ c .before .m .given .1)
 
 pub fair-table-spec : {M : Type 1} → statement M
 fair-table-spec =
     tie.close
-    (tie.spec
-    both-requires
-    enum-known-x
-    subscriptions-in-requires
-    entries-in-requires
-    is-fair-requires
-    returns
-    enum-known-m
-    returns-2
-    returns-3)
+    (tie.spec (λ c κs. search needs) (λ c. search needs) (λ c κs. search needs) (λ c κs. search needs)
+    is-fair-requires returns (λ c. search needs) returns-2 returns-3)

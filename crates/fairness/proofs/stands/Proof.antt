@@ -43,9 +43,6 @@ weigh-requires c κs =
 add-j : tie.Need-add-j Inv-loop μ-loop
 add-j c = omega (arith, c .before .before .before .before .before .pre .0 .few)
 
-loop-less : tie.Need-loop-less Inv-loop μ-loop
-loop-less c = omega arith
-
 loop-again : tie.Need-loop-again Inv-loop μ-loop
 loop-again c =
     let l = c .before .before .before in
@@ -64,16 +61,5 @@ returns c =
 pub stands-spec : {M : Type 1} → statement M
 stands-spec =
     tie.close
-    (tie.spec
-    Inv-loop
-    μ-loop
-    loop-holds
-    mul-weigh
-    element-copy-out-weigh
-    mul-weigh-2
-    array-read-weigh
-    weigh-requires
-    add-j
-    loop-less
-    loop-again
-    returns)
+    (tie.spec Inv-loop μ-loop loop-holds mul-weigh element-copy-out-weigh mul-weigh-2 array-read-weigh
+    weigh-requires add-j (λ c. omega arith) loop-again returns)

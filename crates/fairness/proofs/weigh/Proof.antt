@@ -6,14 +6,11 @@ use mathlib.Core.Path.{ap, _∙_}
 use mathlib.Core.Bool.{true, false}
 use Rattle.base.specs.Choice.{pick}
 use Rattle.meaning.specs.Covering.{covers}
-use Rattle.shapes.specs.Shapes.{patternOf, entryOf, SoundPattern}
+use Rattle.shapes.specs.Shapes.{patternOf, entryOf, WellFormed}
 use Rattle.shapes.specs.declared.Entry.{Entry}
 use Rattle.fairness.specs.Weighing.{weigh-passes, weigh-again, weigh-first}
 use Rattle.fairness.proofs.weigh.Statement.{statement}
 use Rattle.fairness.proofs.weigh.Tie as tie
-
-is-member-requires : tie.Need-is-member-requires
-is-member-requires c κs = search needs
 
 returns : tie.Need-returns
 unfolding entryOf
@@ -27,13 +24,10 @@ returns-2 c =
     let s = c .before .before .before .before in
     weigh-again _ _ _ _ _ (s .pre .0) _ (c .before .before .is-member .ensures) (not-false _ (c .before .if1 .left)) (c .if2 .taken)
 
-entry-at-requires : tie.Need-entry-at-requires
-entry-at-requires c κs = search needs
-
 covers-requires : tie.Need-covers-requires
 covers-requires c κs =
     let start = c .before .before .before .before .before in
-    let sound : SoundPattern (c .entry-at .result .pattern) = rw (c .entry-at .ensures) (start .pre .1) in search (sound, start .pre .3)
+    let sound : WellFormed (c .entry-at .result .pattern) = rw (c .entry-at .ensures) (start .pre .1) in search (sound, start .pre .3)
 
 returns-3 : tie.Need-returns-3
 unfolding entryOf pick
@@ -52,11 +46,4 @@ returns-4 c =
 pub weigh-spec : {M : Type 1} → statement M
 weigh-spec =
     tie.close
-    (tie.spec
-    is-member-requires
-    returns
-    returns-2
-    entry-at-requires
-    covers-requires
-    returns-3
-    returns-4)
+    (tie.spec (λ c κs. search needs) returns returns-2 (λ c κs. search needs) covers-requires returns-3 returns-4)

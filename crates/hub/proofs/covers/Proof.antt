@@ -5,11 +5,8 @@ use Rattle.meaning.specs.Given.{askedGiven}
 use Rattle.hub.proofs.covers.Statement.{statement}
 use Rattle.hub.proofs.covers.Tie as tie
 
-covers-requires : tie.Need-covers-requires
-covers-requires c κs = search needs
-
 returns : tie.Need-returns
 returns c = ap askedGiven (c .covers .ensures)
 
 pub covers-spec : {M : Type 1} → statement M
-covers-spec = tie.close (tie.spec covers-requires returns)
+covers-spec = tie.close (tie.spec (λ c κs. search needs) returns)

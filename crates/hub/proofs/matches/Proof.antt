@@ -5,11 +5,8 @@ use Rattle.meaning.specs.Given.{askedGiven}
 use Rattle.hub.proofs.matches.Statement.{statement}
 use Rattle.hub.proofs.matches.Tie as tie
 
-subscription-matches-requires : tie.Need-subscription-matches-requires
-subscription-matches-requires c κs = search needs
-
 returns : tie.Need-returns
 returns c = ap askedGiven (c .subscription-matches .ensures)
 
 pub matches-spec : {M : Type 1} → statement M
-matches-spec = tie.close (tie.spec subscription-matches-requires returns)
+matches-spec = tie.close (tie.spec (λ c κs. search needs) returns)

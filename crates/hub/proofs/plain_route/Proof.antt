@@ -5,11 +5,8 @@ use Rattle.meaning.specs.Given.{routedGiven}
 use Rattle.hub.proofs.plain_route.Statement.{statement}
 use Rattle.hub.proofs.plain_route.Tie as tie
 
-plain-route-requires : tie.Need-plain-route-requires
-plain-route-requires c κs = search needs
-
 returns : tie.Need-returns
 returns c = ap routedGiven (c .plain-route .ensures)
 
 pub plain-route-spec : {M : Type 1} → statement M
-plain-route-spec = tie.close (tie.spec plain-route-requires returns)
+plain-route-spec = tie.close (tie.spec (λ c κs. search needs) returns)

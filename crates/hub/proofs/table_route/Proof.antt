@@ -5,11 +5,8 @@ use Rattle.meaning.specs.Given.{tabledGiven}
 use Rattle.hub.proofs.table_route.Statement.{statement}
 use Rattle.hub.proofs.table_route.Tie as tie
 
-table-route-requires : tie.Need-table-route-requires
-table-route-requires c κs = search needs
-
 returns : tie.Need-returns
 returns c = ap tabledGiven (c .table-route .ensures)
 
 pub table-route-spec : {M : Type 1} → statement M
-table-route-spec = tie.close (tie.spec table-route-requires returns)
+table-route-spec = tie.close (tie.spec (λ c κs. search needs) returns)

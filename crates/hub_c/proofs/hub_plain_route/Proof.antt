@@ -1,18 +1,9 @@
 -- The plain route for C gives the number and the set of the hub's answer; where it is refused the number is not 0.
 use borrow.Author.Needs.{needs}
 use Rattle.meaning.specs.Given.{refusal, gives, routedGiven}
-use Rattle.laws.specs.Answers.{by-number, plain-route-told}
+use Rattle.laws.specs.AnswerNumbers.{by-number, plain-route-told}
 use Rattle.hub_c.proofs.hub_plain_route.Statement.{statement}
 use Rattle.hub_c.proofs.hub_plain_route.Tie as tie
-
-plain-route-requires : tie.Need-plain-route-requires
-plain-route-requires c κs = search needs
-
-enum-known-n : tie.Need-enum-known-n
-enum-known-n c = search needs
-
-enum-known-set : tie.Need-enum-known-set
-enum-known-set c = search needs
 
 returns : tie.Need-returns
 unfolding routedGiven refusal
@@ -24,4 +15,5 @@ returns-2 c = by-number routedGiven (plain-route-told _ _) (c .before .set .give
 
 pub hub-plain-route-spec : {M : Type 1} → statement M
 hub-plain-route-spec =
-    tie.close (tie.spec plain-route-requires enum-known-n enum-known-set returns returns-2)
+    tie.close
+    (tie.spec (λ c κs. search needs) (λ c. search needs) (λ c. search needs) returns returns-2)

@@ -1,18 +1,9 @@
 -- The route by a table for C gives the number, the set and the tries of the hub's answer; where it is refused the number is not 0.
 use borrow.Author.Needs.{needs}
 use Rattle.meaning.specs.Given.{refusal, gives, tabledGiven}
-use Rattle.laws.specs.Answers.{by-number, table-route-told}
+use Rattle.laws.specs.AnswerNumbers.{by-number, table-route-told}
 use Rattle.hub_c.proofs.hub_table_route.Statement.{statement}
 use Rattle.hub_c.proofs.hub_table_route.Tie as tie
-
-table-route-requires : tie.Need-table-route-requires
-table-route-requires c κs = search needs
-
-enum-known-n : tie.Need-enum-known-n
-enum-known-n c = search needs
-
-enum-known-set : tie.Need-enum-known-set
-enum-known-set c = search needs
 
 returns : tie.Need-returns
 unfolding tabledGiven refusal
@@ -24,4 +15,5 @@ returns-2 c = by-number tabledGiven (table-route-told _ _ _) (c .before .set .gi
 
 pub hub-table-route-spec : {M : Type 1} → statement M
 hub-table-route-spec =
-    tie.close (tie.spec table-route-requires enum-known-n enum-known-set returns returns-2)
+    tie.close
+    (tie.spec (λ c κs. search needs) (λ c. search needs) (λ c. search needs) returns returns-2)

@@ -6,15 +6,6 @@ use borrow.Author.Needs.{needs}
 use Rattle.labels.proofs.after_label.Statement.{statement}
 use Rattle.labels.proofs.after_label.Tie as tie
 
-add-result : tie.Need-add-result
-add-result c = search needs
-
-byte-at-requires : tie.Need-byte-at-requires
-byte-at-requires c κs = search needs
-
-add-result-2 : tie.Need-add-result-2
-add-result-2 c = search needs
-
 returns : tie.Need-returns
 unfolding afterLabel
 returns c = (rw (← (c .byte-at .ensures .0)) (search picks depth 15), omega arith)
@@ -24,4 +15,4 @@ unfolding afterLabel
 returns-2 c = (search picks depth 15, omega arith)
 
 pub after-label-spec : {M : Type 1} → statement M
-after-label-spec = tie.close (tie.spec add-result byte-at-requires add-result-2 returns returns-2)
+after-label-spec = tie.close (tie.spec (λ c. search needs) (λ c κs. search needs) (λ c. search needs) returns returns-2)

@@ -21,15 +21,6 @@ loop-holds c =
     let a = c .before .args in
     (omega arith, omega arith, place-starts (afterLabel (now (a .s))) (a .n) 0 (a .p) (placeAfter (afterLabel (now (a .s))) (a .p) (a .n)))
 
-after-label-requires : tie.Need-after-label-requires Inv-loop μ-loop
-after-label-requires c κs = search needs
-
-add-i : tie.Need-add-i Inv-loop μ-loop
-add-i c = omega arith
-
-loop-less : tie.Need-loop-less Inv-loop μ-loop
-loop-less c = omega arith
-
 loop-again : tie.Need-loop-again Inv-loop μ-loop
 loop-again c =
     let a = c .before .before .before .before .args in
@@ -45,4 +36,5 @@ returns c =
 pub after-labels-spec : {M : Type 1} → statement M
 after-labels-spec =
     tie.close
-    (tie.spec Inv-loop μ-loop loop-holds after-label-requires add-i loop-less loop-again returns)
+    (tie.spec Inv-loop μ-loop loop-holds (λ c κs. search needs) (λ c. omega arith) (λ c. omega arith) loop-again
+    returns)

@@ -12,9 +12,6 @@ returns : tie.Need-returns
 unfolding labelSection
 returns c = search picks depth 15
 
-byte-at-requires : tie.Need-byte-at-requires
-byte-at-requires c κs = search needs
-
 returns-2 : tie.Need-returns-2
 unfolding labelSection
 returns-2 c = rw (← (c .before .byte-at .ensures .0)) (search picks depth 15)
@@ -25,21 +22,9 @@ returns-3 c =
     let over : 60 < c .before .before .byte-at .result = omega arith in
     rw (← (c .before .before .byte-at .ensures .0)) (search picks depth 15)
 
-add-if4 : tie.Need-add-if4
-add-if4 c = search needs
-
-sub-if4 : tie.Need-sub-if4
-sub-if4 c = search needs
-
 returns-4 : tie.Need-returns-4
 unfolding labelSection
 returns-4 c = rw (← (c .before .before .before .byte-at .ensures .0)) (search picks depth 15)
-
-text-at-requires : tie.Need-text-at-requires
-text-at-requires c κs = search needs
-
-occurs-requires : tie.Need-occurs-requires
-occurs-requires c κs = search needs
 
 returns-5 : tie.Need-returns-5
 unfolding labelSection textAt
@@ -51,9 +36,6 @@ returns-5 c =
     )
     (search picks depth 15)
 
-occurs-requires-2 : tie.Need-occurs-requires-2
-occurs-requires-2 c κs = search needs
-
 returns-6 : tie.Need-returns-6
 unfolding labelSection textAt
 returns-6 c =
@@ -64,12 +46,6 @@ returns-6 c =
       ← (c .before .occurs2 .ensures),
     )
     (search picks depth 15)
-
-add-t9 : tie.Need-add-t9
-add-t9 c = search needs
-
-add-t11 : tie.Need-add-t11
-add-t11 c = search needs
 
 returns-7 : tie.Need-returns-7
 unfolding labelSection textAt
@@ -85,19 +61,6 @@ returns-7 c =
 pub label-spec : {M : Type 1} → statement M
 label-spec =
     tie.close
-    (tie.spec
-    returns
-    byte-at-requires
-    returns-2
-    returns-3
-    add-if4
-    sub-if4
-    returns-4
-    text-at-requires
-    occurs-requires
-    returns-5
-    occurs-requires-2
-    returns-6
-    add-t9
-    add-t11
-    returns-7)
+    (tie.spec returns (λ c κs. search needs) returns-2 returns-3 (λ c. search needs) (λ c. search needs) returns-4
+    (λ c κs. search needs) (λ c κs. search needs) returns-5 (λ c κs. search needs) returns-6 (λ c. search needs)
+    (λ c. search needs) returns-7)

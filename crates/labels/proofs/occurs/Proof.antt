@@ -23,27 +23,12 @@ loop-holds c =
     let a = c .before .before .args in
     some-starts (textAt (now (a .s))) (afterLabel (now (a .s))) (sameLabel (now (a .text))) (a .n) 0 (a .p) (some (sameLabel (now (a .text))) (standing (textAt (now (a .s))) (afterLabel (now (a .s))) (a .p) (a .n)))
 
-text-at-requires : tie.Need-text-at-requires Inv-loop μ-loop
-text-at-requires c κs = search needs
-
-same-label-requires : tie.Need-same-label-requires Inv-loop μ-loop
-same-label-requires c κs = search needs
-
 returns : tie.Need-returns Inv-loop μ-loop
 unfolding textsAt
 returns c =
     let a = c .before .before .before .before .before .before .before .args in
     let l = c .before .before .before .before .loop in
     some-hits (textAt (now (a .s))) (afterLabel (now (a .s))) (sameLabel (now (a .text))) (a .n) (l .i) (l .x) _ (c .before .same-label .result) (omega arith) (c .if1 .taken) (c .before .same-label .ensures ∙ ap (sameLabel (now (a .text))) (c .before .before .text-at .ensures)) (l .inv)
-
-after-label-requires : tie.Need-after-label-requires Inv-loop μ-loop
-after-label-requires c κs = search needs
-
-add-i : tie.Need-add-i Inv-loop μ-loop
-add-i c = omega arith
-
-loop-less : tie.Need-loop-less Inv-loop μ-loop
-loop-less c = omega arith
 
 loop-again : tie.Need-loop-again Inv-loop μ-loop
 loop-again c =
@@ -61,15 +46,5 @@ returns-2 c =
 pub occurs-spec : {M : Type 1} → statement M
 occurs-spec =
     tie.close
-    (tie.spec
-    Inv-loop
-    μ-loop
-    loop-holds
-    text-at-requires
-    same-label-requires
-    returns
-    after-label-requires
-    add-i
-    loop-less
-    loop-again
-    returns-2)
+    (tie.spec Inv-loop μ-loop loop-holds (λ c κs. search needs) (λ c κs. search needs) returns
+    (λ c κs. search needs) (λ c. omega arith) (λ c. omega arith) loop-again returns-2)

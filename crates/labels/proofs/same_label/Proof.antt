@@ -5,7 +5,7 @@ use mathlib.Core.Path.{_≡_, refl}
 use lib.ListN.{length, drop}
 use Prim.Native.Nat.{_-_}
 use denote.Ref.{now}
-use Rattle.labels.specs.Turns.{unequal-lengths, bytes-differ, bytes-agree, bytes-end}
+use Rattle.labels.specs.LabelLoops.{unequal-lengths, bytes-differ, bytes-agree, bytes-end}
 use native.Mathlib.Omega.{arith}
 use Rattle.labels.proofs.same_label.Statement.{statement}
 use Rattle.labels.proofs.same_label.Tie as tie
@@ -22,23 +22,11 @@ returns c = unequal-lengths (now (c .before .args .a)) (now (c .before .args .b)
 loop-holds : tie.Need-loop-holds Inv-loop μ-loop
 loop-holds c = (omega arith, refl)
 
-shared-slice-read-if2 : tie.Need-shared-slice-read-if2 Inv-loop μ-loop
-shared-slice-read-if2 c = omega arith
-
-shared-slice-read-if2-2 : tie.Need-shared-slice-read-if2-2 Inv-loop μ-loop
-shared-slice-read-if2-2 c = omega arith
-
 returns-2 : tie.Need-returns-2 Inv-loop μ-loop
 returns-2 c =
     let a = c .before .before .before .before .before .before .args in
     let l = c .before .before .before .before .loop in
     bytes-differ (now (a .a)) (now (a .b)) (l .i) (sameLabel (now (a .a)) (now (a .b))) (omega arith) (omega arith) (c .if2 .taken) (l .inv .1)
-
-add-i : tie.Need-add-i Inv-loop μ-loop
-add-i c = omega arith
-
-loop-less : tie.Need-loop-less Inv-loop μ-loop
-loop-less c = omega arith
 
 loop-again : tie.Need-loop-again Inv-loop μ-loop
 loop-again c =
@@ -55,15 +43,5 @@ returns-3 c =
 pub same-label-spec : {M : Type 1} → statement M
 same-label-spec =
     tie.close
-    (tie.spec
-    Inv-loop
-    μ-loop
-    returns
-    loop-holds
-    shared-slice-read-if2
-    shared-slice-read-if2-2
-    returns-2
-    add-i
-    loop-less
-    loop-again
-    returns-3)
+    (tie.spec Inv-loop μ-loop returns loop-holds (λ c. omega arith) (λ c. omega arith) returns-2 (λ c. omega arith)
+    (λ c. omega arith) loop-again returns-3)

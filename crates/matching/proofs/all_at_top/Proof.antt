@@ -6,7 +6,7 @@ use borrow.Author.Tests.{not-true, not-false}
 use lib.ListN.{length, drop}
 use Rattle.shapes.specs.Shapes.{stepsIn}
 use Rattle.shapes.specs.Steps.{stepIn, length-steps, step-at}
-use Rattle.matching.specs.Notes.{noted}
+use Rattle.matching.specs.NodeNotes.{noted}
 use Rattle.matching.specs.Giving.{kidsHold}
 use Rattle.matching.specs.Top.{top-goes-on, top-stops, top-ends}
 use Rattle.matching.proofs.all_at_top.Statement.{statement}

@@ -9,11 +9,8 @@ use Rattle.matching.proofs.at_top.Tie as tie
 returns : tie.Need-returns
 returns c = pick-false _ _ _ _ (ne-eqb _ _ (c .if1 .taken)) refl
 
-holds-requires : tie.Need-holds-requires
-holds-requires c κs = search needs
-
 returns-2 : tie.Need-returns-2
 returns-2 c = pick-true _ _ _ _ (eq-eqb _ _ (c .before .if1 .left)) (c .holds .ensures)
 
 pub at-top-spec : {M : Type 1} → statement M
-at-top-spec = tie.close (tie.spec returns holds-requires returns-2)
+at-top-spec = tie.close (tie.spec returns (λ c κs. search needs) returns-2)

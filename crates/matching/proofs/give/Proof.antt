@@ -17,9 +17,6 @@ abbrev μ-loop : tie.MeasureT-loop
 loop-holds : tie.Need-loop-holds Inv-loop μ-loop
 loop-holds c = goes-start _ _ _ _ _ (few-steps _ (c .pre .0)) (sym (length-steps _ (c .pre .0))) (c .pre .1)
 
-sub-s : tie.Need-sub-s Inv-loop μ-loop
-sub-s c = omega arith
-
 mul-s : tie.Need-mul-s Inv-loop μ-loop
 mul-s c = omega (arith, few-steps _ (c .before .before .pre .0))
 
@@ -42,12 +39,6 @@ weigh-requires c κs =
       above = l .before .pre .3;
     }
 
-sub-k : tie.Need-sub-k Inv-loop μ-loop
-sub-k c = omega arith
-
-loop-less : tie.Need-loop-less Inv-loop μ-loop
-loop-less c = omega arith
-
 loop-again : tie.Need-loop-again Inv-loop μ-loop
 unfolding stepIn
 loop-again c =
@@ -64,15 +55,5 @@ returns c =
 pub give-spec : {M : Type 1} → statement M
 give-spec =
     tie.close
-    (tie.spec
-    Inv-loop
-    μ-loop
-    loop-holds
-    sub-s
-    mul-s
-    element-copy-out-s
-    weigh-requires
-    sub-k
-    loop-less
-    loop-again
-    returns)
+    (tie.spec Inv-loop μ-loop loop-holds (λ c. omega arith) mul-s element-copy-out-s weigh-requires
+    (λ c. omega arith) (λ c. omega arith) loop-again returns)

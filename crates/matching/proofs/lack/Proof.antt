@@ -6,9 +6,6 @@ use borrow.Author.Needs.{needs}
 use Rattle.matching.proofs.lack.Statement.{statement}
 use Rattle.matching.proofs.lack.Tie as tie
 
-element-write-lacks : tie.Need-element-write-lacks
-element-write-lacks c = search needs
-
 returns : tie.Need-returns
 returns c = pick-false _ _ _ _ (not-true _ (c .if1 .taken)) refl
 
@@ -16,4 +13,4 @@ returns-2 : tie.Need-returns-2
 returns-2 c = pick-true _ _ _ _ (not-false _ (c .if1 .left)) refl
 
 pub lack-spec : {M : Type 1} → statement M
-lack-spec = tie.close (tie.spec element-write-lacks returns returns-2)
+lack-spec = tie.close (tie.spec (λ c. search needs) returns returns-2)

@@ -9,13 +9,10 @@ fill-requires c κs =
     let pre = c .before .before .pre in
     (pre .0, pre .1, pre .2, pre .3, notes-start _ _ _ _ (pre .0) (pre .3))
 
-all-at-top-requires : tie.Need-all-at-top-requires
-all-at-top-requires c κs = search needs
-
 returns : tie.Need-returns
 returns c =
     let start = c .before .before .before .before .before in
     notes-end _ _ _ _ (start .pre .0) (start .pre .3) _ _ (c .before .before .fill .ensures) (c .all-at-top .ensures)
 
 pub matches-spec : {M : Type 1} → statement M
-matches-spec = tie.close (tie.spec fill-requires all-at-top-requires returns)
+matches-spec = tie.close (tie.spec fill-requires (λ c κs. search needs) returns)

@@ -6,11 +6,8 @@ use lib.Pow.{shl-exact}
 use Rattle.members.proofs.alone.Statement.{statement}
 use Rattle.members.proofs.alone.Tie as tie
 
-shl-result : tie.Need-shl-result
-shl-result c = search needs
-
 returns : tie.Need-returns
 returns c = shl-exact 1 (c .args .i) 64 (omega arith) (omega arith) ∙ omega arith
 
 pub alone-spec : {M : Type 1} → statement M
-alone-spec = tie.close (tie.spec shl-result returns)
+alone-spec = tie.close (tie.spec (λ c. search needs) returns)

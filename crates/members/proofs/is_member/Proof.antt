@@ -5,12 +5,9 @@ use Rattle.meaning.specs.Fair.{isMember}
 use Rattle.members.proofs.is_member.Statement.{statement}
 use Rattle.members.proofs.is_member.Tie as tie
 
-shr-result : tie.Need-shr-result
-shr-result c = search needs
-
 returns : tie.Need-returns
 unfolding isMember
 returns c = refl
 
 pub is-member-spec : {M : Type 1} → statement M
-is-member-spec = tie.close (tie.spec shr-result returns)
+is-member-spec = tie.close (tie.spec (λ c. search needs) returns)

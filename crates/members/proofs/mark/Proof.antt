@@ -7,12 +7,6 @@ use Rattle.members.specs.Marks.{marked}
 use Rattle.members.proofs.mark.Statement.{statement}
 use Rattle.members.proofs.mark.Tie as tie
 
-alone-requires : tie.Need-alone-requires
-alone-requires c κs = search needs
-
-union-requires : tie.Need-union-requires
-union-requires c κs = search needs
-
 returns : tie.Need-returns
 unfolding marked
 returns c =
@@ -24,4 +18,4 @@ unfolding marked
 returns-2 c = pick-false _ _ _ (c .before .args .said) (c .if1 .left) refl
 
 pub mark-spec : {M : Type 1} → statement M
-mark-spec = tie.close (tie.spec alone-requires union-requires returns returns-2)
+mark-spec = tie.close (tie.spec (λ c κs. search needs) (λ c κs. search needs) returns returns-2)

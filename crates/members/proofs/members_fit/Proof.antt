@@ -11,11 +11,8 @@ returns c = fit-none _ _ (omega arith)
 returns-2 : tie.Need-returns-2
 returns-2 c = fit-all _ _ (omega arith) (omega arith) (omega arith)
 
-alone-requires : tie.Need-alone-requires
-alone-requires c κs = search needs
-
 returns-3 : tie.Need-returns-3
 returns-3 c = fit-below _ _ _ (c .alone .ensures) (omega arith)
 
 pub members-fit-spec : {M : Type 1} → statement M
-members-fit-spec = tie.close (tie.spec returns returns-2 alone-requires returns-3)
+members-fit-spec = tie.close (tie.spec returns returns-2 (λ c κs. search needs) returns-3)

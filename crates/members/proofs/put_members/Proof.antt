@@ -5,14 +5,14 @@ use borrow.Author.Needs.{needs}
 use mathlib.Core.Path.{refl, _∙_}
 use mathlib.Core.List.{[], _∷_}
 use lib.Seq.{sets, length-sets}
-use Rattle.base.specs.Storing.{Left, left-first, left-goes-on, left-none, left-same}
+use Rattle.base.specs.Storing.{LeftToStore, left-first, left-goes-on, left-none, left-same}
 use Rattle.meaning.specs.Written.{numberBytes}
-use Rattle.members.specs.Bytes.{length-numberBytes, number-goes-on, number-end}
+use Rattle.members.specs.MemberBytes.{length-numberBytes, number-goes-on, number-end}
 use Rattle.members.proofs.put_members.Statement.{statement}
 use Rattle.members.proofs.put_members.Tie as tie
 
 abbrev Inv-loop : tie.InvT-loop
-Inv-loop out₀ at members left₀ k₀ out left k = (k ≤ 8) × Left (sets out₀ at (numberBytes 8 left₀)) (at + 8) out (at + k) (numberBytes (8 - k) left)
+Inv-loop out₀ at members left₀ k₀ out left k = (k ≤ 8) × LeftToStore (sets out₀ at (numberBytes 8 left₀)) (at + 8) out (at + k) (numberBytes (8 - k) left)
 
 abbrev μ-loop : tie.MeasureT-loop
 μ-loop out₀ at members left₀ k₀ out left k = 8 - k
@@ -20,20 +20,8 @@ abbrev μ-loop : tie.MeasureT-loop
 loop-holds : tie.Need-loop-holds Inv-loop μ-loop
 loop-holds c = (omega arith, left-first _ _ (omega arith) (omega (arith, length-numberBytes 8 (c .args .members))) (omega arith))
 
-cast-out : tie.Need-cast-out Inv-loop μ-loop
-cast-out c = search needs
-
-add-out : tie.Need-add-out Inv-loop μ-loop
-add-out c = search needs
-
 slice-write-out : tie.Need-slice-write-out Inv-loop μ-loop
 slice-write-out c = omega (arith, c .before .loop .inv .1 .room)
-
-add-k : tie.Need-add-k Inv-loop μ-loop
-add-k c = search needs
-
-loop-less : tie.Need-loop-less Inv-loop μ-loop
-loop-less c = search needs
 
 loop-again : tie.Need-loop-again Inv-loop μ-loop
 loop-again c = (omega arith, left-goes-on (c .before .loop .inv .1) (c .before .loop .left % 256 ∷ []) _ (number-goes-on 8 (c .before .loop .k) (c .before .loop .left) (c .loop-test .taken)) _ _ refl (omega arith))
@@ -47,15 +35,5 @@ returns c = left-none (c .before .loop .inv .1) (number-end 8 (c .before .loop .
 pub put-members-spec : {M : Type 1} → statement M
 put-members-spec =
     tie.close
-    (tie.spec
-    Inv-loop
-    μ-loop
-    loop-holds
-    cast-out
-    add-out
-    slice-write-out
-    add-k
-    loop-less
-    loop-again
-    same-length
-    returns)
+    (tie.spec Inv-loop μ-loop loop-holds (λ c. search needs) (λ c. search needs) slice-write-out (λ c. search needs)
+    (λ c. search needs) loop-again same-length returns)

@@ -10,11 +10,11 @@ use Rattle.meaning.specs.Merging.{nothing, commonLabel, through}
 use Rattle.laws.specs.Children.{childrenOf}
 use Rattle.shapes.specs.Shapes.{no-steps-stand, stepsIn}
 use Rattle.shapes.specs.Steps.{stepIn, step-number}
-use Rattle.covering.specs.Notes.{PairOfSteps, cellOf}
+use Rattle.covering.specs.PairNotes.{PairOfSteps, cellOf}
 use Rattle.offering.specs.Offers.{buildingOf, IsBody}
 use Rattle.offering.specs.Candidates.{body-of-itself}
 use Rattle.packing.specs.Packing.{unpacked, kept-body}
-use Rattle.merging.specs.Scanning.{meetAll}
+use Rattle.merging.specs.PairWalk.{meetAll}
 use Rattle.merging.specs.Bodies.{takes-first, takes-second, makes, Known, body-found, body-kept}
 use Rattle.merging.specs.Walks.{pairOf, acrossOf, across-starts, across-step, through-starts, through-step}
 use Rattle.merging.specs.Walks.{Walking, walks-on, walks-out, walks-through}

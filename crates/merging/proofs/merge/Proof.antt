@@ -1,7 +1,7 @@
 -- `merging::merge` meets its contract: one covers the other, or it is built at the roots, with the notes of both questions.
 use mathlib.Core.Bool.{true}
 use native.Mathlib.Omega.{arith}
-use Rattle.covering.specs.Notes.{nothing-noted}
+use Rattle.covering.specs.PairNotes.{nothing-noted}
 use Rattle.merging.specs.Bodies.{nothing-known}
 use Rattle.merging.specs.Merges.{merges-first, merges-second, merges-built}
 use Rattle.merging.proofs.merge.Statement.{statement}

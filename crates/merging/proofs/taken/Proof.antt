@@ -6,12 +6,9 @@ use borrow.Author.Needs.{needs}
 use Rattle.merging.proofs.taken.Statement.{statement}
 use Rattle.merging.proofs.taken.Tie as tie
 
-branch-requires : tie.Need-branch-requires
-branch-requires c κs = search needs
-
 returns : tie.Need-returns
 unfolding bodyAt axisOf
 returns c = record { stands = c .branch .ensures; mark = refl }
 
 pub taken-spec : {M : Type 1} → statement M
-taken-spec = tie.close (tie.spec branch-requires returns)
+taken-spec = tie.close (tie.spec (λ c κs. search needs) returns)

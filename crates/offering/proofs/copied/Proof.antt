@@ -8,7 +8,7 @@ use Rattle.meaning.specs.Forest.{stepsFrom}
 use Rattle.shapes.specs.Shapes.{stepsIn}
 use Rattle.shapes.specs.Steps.{stepIn, parent-low}
 use Rattle.laws.specs.Children.{childrenOf}
-use Rattle.offering.specs.Turns.{Copying, copy-starts, copy-step, copy-ends, copy-done}
+use Rattle.offering.specs.CopyingLoop.{Copying, copy-starts, copy-step, copy-ends, copy-done}
 use Rattle.offering.proofs.copied.Statement.{statement}
 use Rattle.offering.proofs.copied.Tie as tie
 

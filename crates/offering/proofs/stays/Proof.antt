@@ -2,15 +2,15 @@
 use Prim.Native.Nat.{_-_}
 use native.Mathlib.Omega.{arith}
 use borrow.Author.Tests.{not-true, not-false}
-use Rattle.shapes.specs.Shapes.{no-steps-stand, patternOf, SoundPattern}
+use Rattle.shapes.specs.Shapes.{no-steps-stand, patternOf, WellFormed}
 use Rattle.shapes.specs.Steps.{stepIn}
 use Rattle.offering.specs.Branches.{copied-beside}
-use Rattle.offering.specs.Staying.{branchAt, Left, left-starts, next-turn, branch-fits, left-goes, left-remains, left-done}
+use Rattle.offering.specs.Staying.{branchAt, LeftToAsk, left-starts, next-turn, branch-fits, left-goes, left-remains, left-done}
 use Rattle.offering.proofs.stays.Statement.{statement}
 use Rattle.offering.proofs.stays.Tie as tie
 
 abbrev Inv-loop : tie.InvT-loop
-Inv-loop c kept r₀ k₀ r k = Left kept (patternOf c) k r × SoundPattern c
+Inv-loop c kept r₀ k₀ r k = LeftToAsk kept (patternOf c) k r × WellFormed c
 
 abbrev μ-loop : tie.MeasureT-loop
 μ-loop c kept r₀ k₀ r k = kept .count - k

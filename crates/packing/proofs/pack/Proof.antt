@@ -5,14 +5,14 @@ use native.Mathlib.Omega.{arith}
 use lib.Dec.{eqb}
 use lib.ListN.{replicate}
 use borrow.Author.Needs.{needs}
-use Rattle.shapes.specs.Shapes.{SoundPattern}
+use Rattle.shapes.specs.Shapes.{WellFormed}
 use Rattle.shapes.specs.Steps.{stepIn}
-use Rattle.packing.specs.Packing.{Written, stepSet, written-starts, written-step}
+use Rattle.packing.specs.Packing.{WrittenSteps, stepSet, written-starts, written-step}
 use Rattle.packing.proofs.pack.Statement.{statement}
 use Rattle.packing.proofs.pack.Tie as tie
 
 abbrev Inv-loop : tie.InvT-loop
-Inv-loop p mark bytes₀ k₀ bytes k = Written p (eqb mark 1) bytes k × SoundPattern p × (k ≤ p .count)
+Inv-loop p mark bytes₀ k₀ bytes k = WrittenSteps p (eqb mark 1) bytes k × WellFormed p × (k ≤ p .count)
 
 abbrev μ-loop : tie.MeasureT-loop
 μ-loop p mark bytes₀ k₀ bytes k = p .count - k

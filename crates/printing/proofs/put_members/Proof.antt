@@ -4,35 +4,20 @@ use mathlib.Core.Path.{refl}
 use mathlib.Core.Bool.{false}
 use native.Mathlib.Omega.{arith}
 use borrow.Author.Needs.{needs}
-use Rattle.texts.specs.Output.{Left, left-first, left-goes-on, left-stays, left-none, left-same, put-is}
-use Rattle.printing.specs.Members.{numbersText, membersFrom, members-text, member-here, member-not, members-end}
+use Rattle.texts.specs.PutText.{LeftToPut, left-first, left-goes-on, left-stays, left-none, left-same, put-is}
+use Rattle.printing.specs.MemberTexts.{numbersText, membersFrom, members-text, member-here, member-not, members-end}
 use Rattle.printing.proofs.put_members.Statement.{statement}
 use Rattle.printing.proofs.put_members.Tie as tie
 
 abbrev Inv-loop : tie.InvT-loop
 Inv-loop out₀ at members n next₀ started₀ i₀ out next started i =
-    Left out₀ at (numbersText false (membersFrom members 0 (n - 0))) out next (numbersText started (membersFrom members i (n - i)))
+    LeftToPut out₀ at (numbersText false (membersFrom members 0 (n - 0))) out next (numbersText started (membersFrom members i (n - i)))
 
 abbrev μ-loop : tie.MeasureT-loop
 μ-loop out₀ at members n next₀ started₀ i₀ out next started i = n - i
 
 loop-holds : tie.Need-loop-holds Inv-loop μ-loop
 loop-holds c = left-first _ _ _
-
-add-i : tie.Need-add-i Inv-loop μ-loop
-add-i c = search needs
-
-is-member-requires : tie.Need-is-member-requires Inv-loop μ-loop
-is-member-requires c κs = search needs
-
-put-if-requires : tie.Need-put-if-requires Inv-loop μ-loop
-put-if-requires c κs = search needs
-
-put-decimal-requires : tie.Need-put-decimal-requires Inv-loop μ-loop
-put-decimal-requires c κs = search needs
-
-loop-less : tie.Need-loop-less Inv-loop μ-loop
-loop-less c = search needs
 
 loop-again : tie.Need-loop-again Inv-loop μ-loop
 loop-again c = let d = c .before .before in
@@ -42,9 +27,6 @@ loop-again c = let d = c .before .before in
     let n = l .before .before .args .n in
     let here = member-here _ n (l .loop .i) (omega arith) (l .loop .started) _ (asked .is-member .ensures) (f .before .before .if1 .taken) in
     left-goes-on (left-goes-on (l .loop .inv) _ _ here _ _ (f .put-if .ensures)) _ _ refl _ _ (d .put-decimal .ensures)
-
-loop-less-2 : tie.Need-loop-less-2 Inv-loop μ-loop
-loop-less-2 c = search needs
 
 loop-again-2 : tie.Need-loop-again-2 Inv-loop μ-loop
 loop-again-2 c = let l = c .before .before .before in
@@ -60,17 +42,5 @@ returns c = put-is _ _ _ _ (members-text _ _) (left-none (c .before .loop .inv) 
 pub put-members-spec : {M : Type 1} → statement M
 put-members-spec =
     tie.close
-    (tie.spec
-    Inv-loop
-    μ-loop
-    loop-holds
-    add-i
-    is-member-requires
-    put-if-requires
-    put-decimal-requires
-    loop-less
-    loop-again
-    loop-less-2
-    loop-again-2
-    same-length
-    returns)
+    (tie.spec Inv-loop μ-loop loop-holds (λ c. search needs) (λ c κs. search needs) (λ c κs. search needs)
+    (λ c κs. search needs) (λ c. search needs) loop-again (λ c. search needs) loop-again-2 same-length returns)

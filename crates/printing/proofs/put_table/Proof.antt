@@ -2,15 +2,15 @@
 use Prim.Native.Nat.{_-_}
 use mathlib.Core.Path.{_∙_}
 use native.Mathlib.Omega.{arith}
-use Rattle.shapes.specs.Tables.{entry-sound}
-use Rattle.texts.specs.Output.{Left, left-first, left-goes-on, left-none, left-same, put-then, put-is, same-room}
+use Rattle.shapes.specs.TableValues.{entry-sound}
+use Rattle.texts.specs.PutText.{LeftToPut, left-first, left-goes-on, left-none, left-same, put-then, put-is, same-room}
 use Rattle.texts.specs.StepTexts.{labelsIn}
-use Rattle.printing.specs.Tables.{entriesText, entry-here, entries-end, table-text}
+use Rattle.printing.specs.TableTexts.{entriesText, entry-here, entries-end, table-text}
 use Rattle.printing.proofs.put_table.Statement.{statement}
 use Rattle.printing.proofs.put_table.Tie as tie
 
 abbrev Inv-loop : tie.InvT-loop
-Inv-loop out₀ s subscriptions rounds t steps next₀ i₀ out next i = Left out₀ next₀ (entriesText (labelsIn s) subscriptions t 0) out next (entriesText (labelsIn s) subscriptions t i)
+Inv-loop out₀ s subscriptions rounds t steps next₀ i₀ out next i = LeftToPut out₀ next₀ (entriesText (labelsIn s) subscriptions t 0) out next (entriesText (labelsIn s) subscriptions t i)
 
 abbrev μ-loop : tie.MeasureT-loop
 μ-loop out₀ s subscriptions rounds t steps next₀ i₀ out next i = t .count - i
@@ -38,9 +38,6 @@ put-entry-requires c κs = let l = c .before .before .before in
     let pre = l .before .before .before .before .before .before .before .before .pre in
     (entry-sound _ (pre .0) (l .loop .i) _ (c .before .before .loop-test .taken), pre .1)
 
-loop-less : tie.Need-loop-less Inv-loop μ-loop
-loop-less c = omega arith
-
 loop-again : tie.Need-loop-again Inv-loop μ-loop
 loop-again c = let e = c .before .before in
     let l = e .before .before .before .before in
@@ -63,17 +60,5 @@ returns c = let l = c .before in
 pub put-table-spec : {M : Type 1} → statement M
 put-table-spec =
     tie.close
-    (tie.spec
-    Inv-loop
-    μ-loop
-    steps-together-requires
-    put-totals-requires
-    loop-holds
-    mul-e
-    element-copy-out-e
-    add-i
-    put-entry-requires
-    loop-less
-    loop-again
-    same-length
-    returns)
+    (tie.spec Inv-loop μ-loop steps-together-requires put-totals-requires loop-holds mul-e element-copy-out-e add-i
+    put-entry-requires (λ c. omega arith) loop-again same-length returns)

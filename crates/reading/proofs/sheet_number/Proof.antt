@@ -7,15 +7,6 @@ use Rattle.reading.proofs.sheet_number.Statement.{statement}
 use Rattle.reading.proofs.sheet_number.Tie as tie
 use Rattle.reading.specs.SheetSection.{sheet-number}
 
-sheet-requires : tie.Need-sheet-requires
-sheet-requires c κs = search needs
-
-enum-known-x : tie.Need-enum-known-x
-enum-known-x c = search needs
-
-enum-known-m : tie.Need-enum-known-m
-enum-known-m c = search needs
-
 returns : tie.Need-returns
 unfolding numberAt
 returns c =
@@ -29,4 +20,4 @@ returns-2 c =
     sym (ap numberAt (c .before .m .given .1)) ∙ ap numberAt (c .before .before .before .sheet .ensures) ∙ sheet-number (now (a .s))
 
 pub sheet-number-spec : {M : Type 1} → statement M
-sheet-number-spec = tie.close (tie.spec sheet-requires enum-known-x enum-known-m returns returns-2)
+sheet-number-spec = tie.close (tie.spec (λ c κs. search needs) (λ c. search needs) (λ c. search needs) returns returns-2)

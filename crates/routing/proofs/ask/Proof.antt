@@ -3,9 +3,6 @@ use borrow.Author.Needs.{needs}
 use Rattle.routing.proofs.ask.Statement.{statement}
 use Rattle.routing.proofs.ask.Tie as tie
 
-pattern-at-requires : tie.Need-pattern-at-requires
-pattern-at-requires c κs = search needs
-
 matches-requires : tie.Need-matches-requires
 matches-requires c κs =
     let pre = c .before .before .before .pre in
@@ -15,4 +12,4 @@ returns : tie.Need-returns
 returns c = rw (← (c .before .pattern-at .ensures)) (c .matches .ensures)
 
 pub ask-spec : {M : Type 1} → statement M
-ask-spec = tie.close (tie.spec pattern-at-requires matches-requires returns)
+ask-spec = tie.close (tie.spec (λ c κs. search needs) matches-requires returns)

@@ -32,9 +32,6 @@ mul-entry-at c = omega (arith, c .before .before .before .before .before .pre .1
 element-copy-out-entry-at : tie.Need-element-copy-out-entry-at Inv-loop μ-loop
 element-copy-out-entry-at c = omega (arith, c .before .before .before .before .before .pre .1 .few)
 
-entry-at-requires : tie.Need-entry-at-requires Inv-loop μ-loop
-entry-at-requires c κs = search needs
-
 ask-entry-requires : tie.Need-ask-entry-requires Inv-loop μ-loop
 ask-entry-requires c κs =
     let l = c .before .before .before in
@@ -43,9 +40,6 @@ ask-entry-requires c κs =
 
 add-j : tie.Need-add-j Inv-loop μ-loop
 add-j c = omega (arith, c .before .before .before .before .before .before .before .before .pre .1 .few)
-
-loop-less : tie.Need-loop-less Inv-loop μ-loop
-loop-less c = omega arith
 
 loop-again : tie.Need-loop-again Inv-loop μ-loop
 loop-again c =
@@ -64,15 +58,5 @@ returns c = along-ends _ _ noEntry (c .before .loop .j) _ _ (c .before .loop .in
 pub ask-entries-spec : {M : Type 1} → statement M
 ask-entries-spec =
     tie.close
-    (tie.spec
-    Inv-loop
-    μ-loop
-    loop-holds
-    mul-entry-at
-    element-copy-out-entry-at
-    entry-at-requires
-    ask-entry-requires
-    add-j
-    loop-less
-    loop-again
-    returns)
+    (tie.spec Inv-loop μ-loop loop-holds mul-entry-at element-copy-out-entry-at (λ c κs. search needs)
+    ask-entry-requires add-j (λ c. omega arith) loop-again returns)

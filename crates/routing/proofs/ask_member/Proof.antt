@@ -5,22 +5,13 @@ use Rattle.routing.specs.Tabling.{member-asked, member-left}
 use Rattle.routing.proofs.ask_member.Statement.{statement}
 use Rattle.routing.proofs.ask_member.Tie as tie
 
-is-member-requires : tie.Need-is-member-requires
-is-member-requires c κs = search needs
-
 returns : tie.Need-returns
 returns c = member-left _ _ _ _ _ (c .before .is-member .ensures) (not-true _ (c .if1 .taken))
-
-pattern-at-requires : tie.Need-pattern-at-requires
-pattern-at-requires c κs = search needs
 
 try-pattern-requires : tie.Need-try-pattern-requires
 try-pattern-requires c κs =
     let pre = c .before .before .before .before .before .pre in
     (rw (c .pattern-at .ensures) (pre .1), pre .2 .few, pre .2 .inside, pre .2 .rising, pre .3)
-
-mark-requires : tie.Need-mark-requires
-mark-requires c κs = search needs
 
 returns-2 : tie.Need-returns-2
 returns-2 c =
@@ -30,10 +21,5 @@ returns-2 c =
 pub ask-member-spec : {M : Type 1} → statement M
 ask-member-spec =
     tie.close
-    (tie.spec
-    is-member-requires
-    returns
-    pattern-at-requires
-    try-pattern-requires
-    mark-requires
+    (tie.spec (λ c κs. search needs) returns (λ c κs. search needs) try-pattern-requires (λ c κs. search needs)
     returns-2)

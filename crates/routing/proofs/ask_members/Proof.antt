@@ -39,9 +39,6 @@ ask-member-requires c κs =
 add-i : tie.Need-add-i Inv-loop μ-loop
 add-i c = omega (arith, c .before .before .before .before .before .before .pre .0 .few)
 
-loop-less : tie.Need-loop-less Inv-loop μ-loop
-loop-less c = omega arith
-
 loop-again : tie.Need-loop-again Inv-loop μ-loop
 loop-again c =
     let l = c .before .before .before in
@@ -58,14 +55,5 @@ returns c = foldN-ends _ _ (c .before .loop .i) _ _ (omega (arith, c .before .be
 pub ask-members-spec : {M : Type 1} → statement M
 ask-members-spec =
     tie.close
-    (tie.spec
-    Inv-loop
-    μ-loop
-    loop-holds
-    mul-x
-    element-copy-out-x
-    ask-member-requires
-    add-i
-    loop-less
-    loop-again
-    returns)
+    (tie.spec Inv-loop μ-loop loop-holds mul-x element-copy-out-x ask-member-requires add-i (λ c. omega arith)
+    loop-again returns)

@@ -2,14 +2,11 @@
 use mathlib.Core.Path.{_∙_, ap}
 use native.Mathlib.Omega.{arith}
 use Rattle.meaning.specs.Satisfying.{satisfies}
-use Rattle.patterns.specs.Subscribed.{subscriptions-stand}
+use Rattle.subscriptions.specs.Subscribed.{subscriptions-stand}
 use Rattle.routing.specs.Plain.{answer-there, answer-not-there}
 use borrow.Author.Needs.{needs}
 use Rattle.routing.proofs.ask_numbered.Statement.{statement}
 use Rattle.routing.proofs.ask_numbered.Tie as tie
-
-subscriptions-in-requires : tie.Need-subscriptions-in-requires
-subscriptions-in-requires c κs = search needs
 
 mul-x : tie.Need-mul-x
 mul-x c = omega (arith, subscriptions-stand _ _ (c .before .before .before .before .pre .0) (c .before .subscriptions-in .ensures) .few)
@@ -37,4 +34,4 @@ returns-2 c =
 pub ask-numbered-spec : {M : Type 1} → statement M
 ask-numbered-spec =
     tie.close
-    (tie.spec subscriptions-in-requires mul-x element-copy-out-x ask-requires returns returns-2)
+    (tie.spec (λ c κs. search needs) mul-x element-copy-out-x ask-requires returns returns-2)

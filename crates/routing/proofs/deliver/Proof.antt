@@ -6,7 +6,7 @@ use borrow.Author.Needs.{needs}
 use Rattle.meaning.specs.Satisfying.{satisfies}
 use Rattle.shapes.specs.Shapes.{nodesAt}
 use Rattle.reading.specs.SheetPlaces.{sheetAt}
-use Rattle.patterns.specs.Subscribed.{subscriptions-stand}
+use Rattle.subscriptions.specs.Subscribed.{subscriptions-stand}
 use Rattle.routing.specs.Plain.{firstDelivered, none-delivered, next-delivered, all-delivered}
 use Rattle.routing.proofs.deliver.Statement.{statement}
 use Rattle.routing.proofs.deliver.Tie as tie
@@ -16,9 +16,6 @@ Inv-loop s d at n subscriptions set₀ i₀ set i = (i ≤ subscriptions .count)
 
 abbrev μ-loop : tie.MeasureT-loop
 μ-loop s d at n subscriptions set₀ i₀ set i = subscriptions .count - i
-
-subscriptions-in-requires : tie.Need-subscriptions-in-requires Inv-loop μ-loop
-subscriptions-in-requires c κs = search needs
 
 loop-holds : tie.Need-loop-holds Inv-loop μ-loop
 loop-holds c = (omega arith, none-delivered _ _)
@@ -45,9 +42,6 @@ add-i c =
     let l = c .before .before .before .before in
     omega (arith, subscriptions-stand _ _ (l .before .before .before .before .pre .0) (l .before .subscriptions-in .ensures) .few)
 
-loop-less : tie.Need-loop-less Inv-loop μ-loop
-loop-less c = omega arith
-
 loop-again : tie.Need-loop-again Inv-loop μ-loop
 loop-again c =
     let l = c .before .before .before .before in
@@ -68,16 +62,5 @@ returns c =
 pub deliver-spec : {M : Type 1} → statement M
 deliver-spec =
     tie.close
-    (tie.spec
-    Inv-loop
-    μ-loop
-    subscriptions-in-requires
-    loop-holds
-    mul-x
-    element-copy-out-x
-    ask-requires
-    mark-requires
-    add-i
-    loop-less
-    loop-again
-    returns)
+    (tie.spec Inv-loop μ-loop (λ c κs. search needs) loop-holds mul-x element-copy-out-x ask-requires mark-requires
+    add-i (λ c. omega arith) loop-again returns)

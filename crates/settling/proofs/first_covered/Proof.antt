@@ -8,9 +8,9 @@ use borrow.Author.Needs.{needs}
 use Rattle.base.specs.Loops.{scan}
 use Rattle.base.specs.Scanning.{scan-stops, scan-goes-on, scan-ends}
 use Rattle.shapes.specs.Shapes.{tableOf}
-use Rattle.shapes.specs.Tables.{noEntry, entry-sound}
+use Rattle.shapes.specs.TableValues.{noEntryValue, entry-sound}
 use Rattle.settling.specs.Settled.{coversAt}
-use Rattle.settling.specs.Turns.{covers-itself, covers-other}
+use Rattle.settling.specs.SettlingLoop.{covers-itself, covers-other}
 use Rattle.settling.proofs.first_covered.Statement.{statement}
 use Rattle.settling.proofs.first_covered.Tie as tie
 
@@ -26,8 +26,8 @@ loop-holds c = (c .before .before .pre .2, refl)
 covers-requires : tie.Need-covers-requires Inv-loop μ-loop
 covers-requires c κs =
     let a = c .before .before .before .before .before .before in
-    let one = entry-sound (a .args .t1) (a .pre .0) (a .args .i) noEntry (a .pre .1) in
-    let other = entry-sound (a .args .t1) (a .pre .0) (c .before .before .before .loop .k) noEntry (omega arith) in
+    let one = entry-sound (a .args .t1) (a .pre .0) (a .args .i) noEntryValue (a .pre .1) in
+    let other = entry-sound (a .args .t1) (a .pre .0) (c .before .before .before .loop .k) noEntryValue (omega arith) in
     search needs
 
 returns : tie.Need-returns Inv-loop μ-loop

@@ -1,15 +1,15 @@
 -- `settle` meets its contract. The pairs passed are clear; each turn removes an entry or passes a row, so the measure falls.
 use Prim.Native.Nat.{_*_, _-_}
 use native.Mathlib.Omega.{arith}
-use Rattle.shapes.specs.Shapes.{tableOf, SoundTable}
-use Rattle.shapes.specs.Tables.{noEntry, length-table, entry-sound}
+use Rattle.shapes.specs.Shapes.{tableOf, WellFormedTable}
+use Rattle.shapes.specs.TableValues.{noEntryValue, length-table, entry-sound}
 use Rattle.settling.specs.Settled.{Searched, search-starts, search-ends}
-use Rattle.settling.specs.Turns.{row-passed, one-less, goes-on-same, goes-on-higher}
+use Rattle.settling.specs.SettlingLoop.{row-passed, one-less, goes-on-same, goes-on-higher}
 use Rattle.settling.proofs.settle.Statement.{statement}
 use Rattle.settling.proofs.settle.Tie as tie
 
 abbrev Inv-loop : tie.InvT-loop
-Inv-loop u₀ i₀ from₀ u i from = Searched (tableOf u₀) (tableOf u) i from × SoundTable u
+Inv-loop u₀ i₀ from₀ u i from = Searched (tableOf u₀) (tableOf u) i from × WellFormedTable u
 
 abbrev μ-loop : tie.MeasureT-loop
 μ-loop u₀ i₀ from₀ u i from = 2 * u .count - i
@@ -25,7 +25,7 @@ first-covered-requires c κs =
 join-at-requires : tie.Need-join-at-requires Inv-loop μ-loop
 join-at-requires c κs =
     let l = c .before .before .before .before .loop in
-    (l .inv .1, entry-sound (l .u) (l .inv .1) (l .i) noEntry (omega arith), omega arith, omega arith)
+    (l .inv .1, entry-sound (l .u) (l .inv .1) (l .i) noEntryValue (omega arith), omega arith, omega arith)
 
 -- an entry less counts two, a row higher only one
 loop-less : tie.Need-loop-less Inv-loop μ-loop

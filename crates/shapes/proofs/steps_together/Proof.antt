@@ -1,7 +1,7 @@
 -- `shapes::steps_together` meets its contract: the steps of the entries passed are added up.
 use Prim.Native.Nat.{_-_}
 use native.Mathlib.Omega.{arith}
-use Rattle.shapes.specs.Tables.{noEntry, entry-sound}
+use Rattle.shapes.specs.TableValues.{noEntryValue, entry-sound}
 use Rattle.shapes.specs.Summing.{Summed, sum-starts, sum-goes-on, sum-ends}
 use Rattle.shapes.proofs.steps_together.Statement.{statement}
 use Rattle.shapes.proofs.steps_together.Tie as tie
@@ -15,23 +15,11 @@ abbrev μ-loop : tie.MeasureT-loop
 loop-holds : tie.Need-loop-holds Inv-loop μ-loop
 loop-holds c = sum-starts (c .args .t1)
 
-mul-e : tie.Need-mul-e Inv-loop μ-loop
-mul-e c = omega arith
-
-element-copy-out-e : tie.Need-element-copy-out-e Inv-loop μ-loop
-element-copy-out-e c = omega arith
-
 add-n : tie.Need-add-n Inv-loop μ-loop
 add-n c =
     let l = c .before .before .before .before .loop in
     let a = c .before .before .before .before .before in
-    omega (arith, entry-sound (a .args .t1) (a .pre) (l .i) noEntry (omega arith) .few)
-
-add-i : tie.Need-add-i Inv-loop μ-loop
-add-i c = omega arith
-
-loop-less : tie.Need-loop-less Inv-loop μ-loop
-loop-less c = omega arith
+    omega (arith, entry-sound (a .args .t1) (a .pre) (l .i) noEntryValue (omega arith) .few)
 
 loop-again : tie.Need-loop-again Inv-loop μ-loop
 loop-again c =
@@ -48,14 +36,5 @@ returns c =
 pub steps-together-spec : {M : Type 1} → statement M
 steps-together-spec =
     tie.close
-    (tie.spec
-    Inv-loop
-    μ-loop
-    loop-holds
-    mul-e
-    element-copy-out-e
-    add-n
-    add-i
-    loop-less
-    loop-again
-    returns)
+    (tie.spec Inv-loop μ-loop loop-holds (λ c. omega arith) (λ c. omega arith) add-n (λ c. omega arith)
+    (λ c. omega arith) loop-again returns)

@@ -12,11 +12,5 @@ use Rattle.tables.proofs.enough.Tie as tie
 returns : tie.Need-returns
 returns c = let none-left : _≡_ {A = ℕ} 0 (length (now (c .before .args .t)) - (c .before .args .x)) = omega arith in ap (leb (c .before .args .n)) none-left
 
-sub-result : tie.Need-sub-result
-sub-result c = search needs
-
-returns-2 : tie.Need-returns-2
-returns-2 c = search needs
-
 pub enough-spec : {M : Type 1} → statement M
-enough-spec = tie.close (tie.spec returns sub-result returns-2)
+enough-spec = tie.close (tie.spec returns (λ c. search needs) (λ c. search needs))

@@ -4,7 +4,7 @@ use mathlib.Core.Path.{_≡_, sym}
 use Prim.Native.Nat.{_-_}
 use denote.Ref.{now}
 use Rattle.base.specs.Loops.{run, run-starts, run-ends}
-use Rattle.places.specs.Turns.{reads-on, reads-fault}
+use Rattle.places.specs.ReadingLoop.{reads-on, reads-fault}
 use borrow.Author.Needs.{needs}
 use native.Mathlib.Omega.{arith}
 use Rattle.tables.proofs.entries_from.Statement.{statement}
@@ -23,26 +23,11 @@ loop-holds c =
     let a = c .before .args in
     sym (run-starts (eachPlace (entrySection (now (a .t)) (a .known))) (a .n) 0 (a .p) (run (eachPlace (entrySection (now (a .t)) (a .known))) (a .n) 0 (a .p)))
 
-entry-requires : tie.Need-entry-requires Inv-loop μ-loop
-entry-requires c κs = search needs
-
-enum-known-y : tie.Need-enum-known-y Inv-loop μ-loop
-enum-known-y c = search needs
-
-enum-known-m : tie.Need-enum-known-m Inv-loop μ-loop
-enum-known-m c = search needs
-
 returns : tie.Need-returns Inv-loop μ-loop
 returns c =
     let a = c .before .before .before .before .before .before .before .args in
     let l = c .before .before .before .before .before .loop in
     reads-fault (eachPlace (entrySection (now (a .t)) (a .known))) (a .n) (l .i) (l .x) _ (c .before .before .before .entry .result) (c .before .m .given .0 .0) (omega arith) (c .before .before .before .entry .ensures) (c .before .m .given .1) (l .inv)
-
-add-i : tie.Need-add-i Inv-loop μ-loop
-add-i c = omega arith
-
-loop-less : tie.Need-loop-less Inv-loop μ-loop
-loop-less c = omega arith
 
 loop-again : tie.Need-loop-again Inv-loop μ-loop
 loop-again c =
@@ -59,15 +44,5 @@ returns-2 c =
 pub entries-from-spec : {M : Type 1} → statement M
 entries-from-spec =
     tie.close
-    (tie.spec
-    Inv-loop
-    μ-loop
-    loop-holds
-    entry-requires
-    enum-known-y
-    enum-known-m
-    returns
-    add-i
-    loop-less
-    loop-again
-    returns-2)
+    (tie.spec Inv-loop μ-loop loop-holds (λ c κs. search needs) (λ c. search needs) (λ c. search needs) returns
+    (λ c. omega arith) (λ c. omega arith) loop-again returns-2)

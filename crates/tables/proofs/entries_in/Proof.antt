@@ -6,12 +6,6 @@ use Rattle.tables.proofs.entries_in.Statement.{statement}
 use Rattle.tables.proofs.entries_in.Tie as tie
 use Rattle.tables.specs.TableSection.{tableEntries}
 
-entry-places-requires : tie.Need-entry-places-requires
-entry-places-requires c κs = search needs
-
-byte-at-requires : tie.Need-byte-at-requires
-byte-at-requires c κs = search needs
-
 returns : tie.Need-returns
 unfolding tableEntries pick
 returns c = rw (← (c .before .byte-at .ensures .0), ← (c .before .before .entry-places .ensures), le-leb (c .before .byte-at .result) 64 (c .if1 .taken))
@@ -21,4 +15,4 @@ unfolding tableEntries pick
 returns-2 c = rw (← (c .before .byte-at .ensures .0), ← (c .before .before .entry-places .ensures), lt-leb (c .before .byte-at .result) 64 (c .if1 .left))
 
 pub entries-in-spec : {M : Type 1} → statement M
-entries-in-spec = tie.close (tie.spec entry-places-requires byte-at-requires returns returns-2)
+entries-in-spec = tie.close (tie.spec (λ c κs. search needs) (λ c κs. search needs) returns returns-2)

@@ -12,16 +12,10 @@ use borrow.Author.Needs.{needs}
 use Rattle.tables.proofs.entry.Statement.{statement}
 use Rattle.tables.proofs.entry.Tie as tie
 
-enough-requires : tie.Need-enough-requires
-enough-requires c κs = search needs
-
 add-pattern : tie.Need-add-pattern
 add-pattern c =
     let a = c .before .before .before .args in
     omega (arith, leb-true 8 (length (now (a .t)) - (a .x)) (sym (c .before .enough .ensures) ∙ c .if1 .taken))
-
-pattern-requires : tie.Need-pattern-requires
-pattern-requires c κs = search needs
 
 returns : tie.Need-returns
 unfolding entrySection patternSection
@@ -32,4 +26,4 @@ unfolding entrySection patternSection
 returns-2 c = rw (← (c .before .enough .ensures)) (search picks depth 15)
 
 pub entry-spec : {M : Type 1} → statement M
-entry-spec = tie.close (tie.spec enough-requires add-pattern pattern-requires returns returns-2)
+entry-spec = tie.close (tie.spec (λ c κs. search needs) add-pattern (λ c κs. search needs) returns returns-2)

@@ -2,17 +2,11 @@
 use native.Mathlib.Omega.{arith}
 use Prim.Native.Nat.{_+_}
 use denote.Ref.{now}
-use Rattle.patterns.specs.TakenRead.{pattern-past}
+use Rattle.subscriptions.specs.TakenRead.{pattern-past}
 use borrow.Author.Needs.{needs}
 use Rattle.tables.proofs.entry_at.Statement.{statement}
 use Rattle.tables.proofs.entry_at.Tie as tie
 use Rattle.tables.specs.TableSection.{entryTaken}
-
-members-at-requires : tie.Need-members-at-requires
-members-at-requires c κs = search needs
-
-pattern-at-requires : tie.Need-pattern-at-requires
-pattern-at-requires c κs = search needs
 
 returns : tie.Need-returns
 unfolding entryTaken
@@ -24,12 +18,6 @@ returns c =
       ← (c .pattern-at .ensures),
     )
 
-add-pattern-at : tie.Need-add-pattern-at
-add-pattern-at c = search needs
-
-pattern-at-requires-2 : tie.Need-pattern-at-requires-2
-pattern-at-requires-2 c κs = search needs
-
 returns-2 : tie.Need-returns-2
 unfolding entryTaken
 returns-2 c = rw (← (c .before .before .members-at .ensures), ← (c .pattern-at2 .ensures))
@@ -37,10 +25,5 @@ returns-2 c = rw (← (c .before .before .members-at .ensures), ← (c .pattern-
 pub entry-at-spec : {M : Type 1} → statement M
 entry-at-spec =
     tie.close
-    (tie.spec
-    members-at-requires
-    pattern-at-requires
-    returns
-    add-pattern-at
-    pattern-at-requires-2
+    (tie.spec (λ c κs. search needs) (λ c κs. search needs) returns (λ c. search needs) (λ c κs. search needs)
     returns-2)

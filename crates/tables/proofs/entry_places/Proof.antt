@@ -1,42 +1,24 @@
 -- `tables::entry_places` meets its contract.
 -- The invariant: what is filled is what stands there, and x is where the next one stands; the measure: what is left.
-use Rattle.patterns.specs.Taken.{itself}
+use Rattle.subscriptions.specs.Taken.{itself}
 use native.Mathlib.Omega.{arith}
 use lib.ListN.{length, length-set}
 use mathlib.Core.Path.{_≡_, refl, _∙_}
 use Prim.Native.Nat.{_+_, _*_, _-_, _≤_}
 use denote.Ref.{now}
-use Rattle.base.specs.Standing.{Filled, fill-starts, fill-goes-on, fill-ends}
+use Rattle.base.specs.Standing.{FilledUpTo, fill-starts, fill-goes-on, fill-ends}
 use Rattle.tables.proofs.entry_places.Statement.{statement}
 use Rattle.tables.proofs.entry_places.Tie as tie
 use Rattle.tables.specs.TableSection.{afterEntry, entryPlaces}
 
 abbrev Inv-loop : tie.InvT-loop
-Inv-loop t places₀ i₀ x₀ places i x = (length places ≡ 64) × (i ≤ 64) × (x ≤ 1 + 774 * i) × Filled itself (afterEntry t) 1 places i x
+Inv-loop t places₀ i₀ x₀ places i x = (length places ≡ 64) × (i ≤ 64) × (x ≤ 1 + 774 * i) × FilledUpTo itself (afterEntry t) 1 places i x
 
 abbrev μ-loop : tie.MeasureT-loop
 μ-loop t places₀ i₀ x₀ places i x = 64 - i
 
 loop-holds : tie.Need-loop-holds Inv-loop μ-loop
 loop-holds c = (refl, omega arith, omega arith, fill-starts itself (afterEntry (now (c .before .args .t))) 1 _)
-
-mul-places : tie.Need-mul-places Inv-loop μ-loop
-mul-places c = omega arith
-
-array-write-places : tie.Need-array-write-places Inv-loop μ-loop
-array-write-places c = omega arith
-
-add-after-pattern : tie.Need-add-after-pattern Inv-loop μ-loop
-add-after-pattern c = omega arith
-
-after-pattern-requires : tie.Need-after-pattern-requires Inv-loop μ-loop
-after-pattern-requires c κs = omega arith
-
-add-i : tie.Need-add-i Inv-loop μ-loop
-add-i c = omega arith
-
-loop-less : tie.Need-loop-less Inv-loop μ-loop
-loop-less c = omega arith
 
 loop-again : tie.Need-loop-again Inv-loop μ-loop
 unfolding itself afterEntry
@@ -55,15 +37,5 @@ returns c =
 pub entry-places-spec : {M : Type 1} → statement M
 entry-places-spec =
     tie.close
-    (tie.spec
-    Inv-loop
-    μ-loop
-    loop-holds
-    mul-places
-    array-write-places
-    add-after-pattern
-    after-pattern-requires
-    add-i
-    loop-less
-    loop-again
-    returns)
+    (tie.spec Inv-loop μ-loop loop-holds (λ c. omega arith) (λ c. omega arith) (λ c. omega arith)
+    (λ c κs. omega arith) (λ c. omega arith) (λ c. omega arith) loop-again returns)

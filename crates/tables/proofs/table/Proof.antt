@@ -12,29 +12,11 @@ returns : tie.Need-returns
 unfolding tableSection
 returns c = search picks depth 15
 
-byte-at-requires : tie.Need-byte-at-requires
-byte-at-requires c κs = search needs
-
 returns-2 : tie.Need-returns-2
 unfolding tableSection
 returns-2 c =
     let over : 64 < c .before .byte-at .result = omega arith in
     rw (← (c .before .byte-at .ensures .0)) (search picks depth 15)
-
-byte-at-requires-2 : tie.Need-byte-at-requires-2
-byte-at-requires-2 c κs = search needs
-
-entries-from-requires : tie.Need-entries-from-requires
-entries-from-requires c κs = search needs
-
-enum-known-y : tie.Need-enum-known-y
-enum-known-y c = search needs
-
-end-requires : tie.Need-end-requires
-end-requires c κs = search needs
-
-enum-known-m : tie.Need-enum-known-m
-enum-known-m c = search needs
 
 returns-3 : tie.Need-returns-3
 unfolding tableSection andThen
@@ -61,14 +43,5 @@ returns-4 c =
 pub table-spec : {M : Type 1} → statement M
 table-spec =
     tie.close
-    (tie.spec
-    returns
-    byte-at-requires
-    returns-2
-    byte-at-requires-2
-    entries-from-requires
-    enum-known-y
-    end-requires
-    enum-known-m
-    returns-3
-    returns-4)
+    (tie.spec returns (λ c κs. search needs) returns-2 (λ c κs. search needs) (λ c κs. search needs)
+    (λ c. search needs) (λ c κs. search needs) (λ c. search needs) returns-3 returns-4)

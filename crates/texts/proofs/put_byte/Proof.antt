@@ -1,18 +1,9 @@
 -- `texts::put_byte` meets its contract. A byte goes to the next place, or there is none.
 use native.Mathlib.Omega.{arith}
-use Rattle.texts.specs.Output.{byte-fits, byte-lost}
+use Rattle.texts.specs.PutText.{byte-fits, byte-lost}
 use borrow.Author.Needs.{needs}
 use Rattle.texts.proofs.put_byte.Statement.{statement}
 use Rattle.texts.proofs.put_byte.Tie as tie
-
-slice-write-out : tie.Need-slice-write-out
-slice-write-out c = search needs
-
-add-result : tie.Need-add-result
-add-result c = search needs
-
-same-length : tie.Need-same-length
-same-length c = search needs
 
 returns : tie.Need-returns
 returns c = byte-fits (c .before .args .out .now) (c .before .args .at) (c .before .args .b) (omega arith)
@@ -21,4 +12,4 @@ returns-2 : tie.Need-returns-2
 returns-2 c = byte-lost (c .before .args .out .now) (c .before .args .at) (c .before .args .b) (omega arith)
 
 pub put-byte-spec : {M : Type 1} → statement M
-put-byte-spec = tie.close (tie.spec slice-write-out add-result same-length returns returns-2)
+put-byte-spec = tie.close (tie.spec (λ c. search needs) (λ c. search needs) (λ c. search needs) returns returns-2)

@@ -1,17 +1,8 @@
 -- `texts::put_counted` meets its contract. The number, and then the text.
-use Rattle.texts.specs.Output.{put-then}
+use Rattle.texts.specs.PutText.{put-then}
 use borrow.Author.Needs.{needs}
 use Rattle.texts.proofs.put_counted.Statement.{statement}
 use Rattle.texts.proofs.put_counted.Tie as tie
-
-put-decimal-requires : tie.Need-put-decimal-requires
-put-decimal-requires c κs = search needs
-
-put-bytes-requires : tie.Need-put-bytes-requires
-put-bytes-requires c κs = search needs
-
-same-length : tie.Need-same-length
-same-length c = search needs
 
 returns : tie.Need-returns
 returns c = let text = c .before .before in
@@ -19,4 +10,4 @@ returns c = let text = c .before .before in
     put-then _ _ _ _ _ (number .put-decimal .ensures) (text .put-bytes .ensures)
 
 pub put-counted-spec : {M : Type 1} → statement M
-put-counted-spec = tie.close (tie.spec put-decimal-requires put-bytes-requires same-length returns)
+put-counted-spec = tie.close (tie.spec (λ c κs. search needs) (λ c κs. search needs) (λ c. search needs) returns)

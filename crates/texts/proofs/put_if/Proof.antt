@@ -4,12 +4,6 @@ use borrow.Author.Needs.{needs}
 use Rattle.texts.proofs.put_if.Statement.{statement}
 use Rattle.texts.proofs.put_if.Tie as tie
 
-put-byte-requires : tie.Need-put-byte-requires
-put-byte-requires c κs = search needs
-
-same-length : tie.Need-same-length
-same-length c = search needs
-
 returns : tie.Need-returns
 returns c = byte-put _ _ _ _ (c .before .before .before .before .if1 .taken) (c .before .before .put-byte .ensures)
 
@@ -17,4 +11,4 @@ returns-2 : tie.Need-returns-2
 returns-2 c = byte-left-out _ _ _ (c .if1 .left)
 
 pub put-if-spec : {M : Type 1} → statement M
-put-if-spec = tie.close (tie.spec put-byte-requires same-length returns returns-2)
+put-if-spec = tie.close (tie.spec (λ c κs. search needs) (λ c. search needs) returns returns-2)

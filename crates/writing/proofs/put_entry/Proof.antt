@@ -8,7 +8,7 @@ use lib.ListN.{length}
 use lib.Seq.{sets}
 use Rattle.meaning.specs.Written.{patternBytes}
 use Rattle.shapes.specs.Shapes.{patternOf}
-use Rattle.writing.specs.Bytes.{entry-length, entry-stored}
+use Rattle.writing.specs.BytesWritten.{entry-length, entry-stored}
 use Rattle.writing.proofs.put_entry.Statement.{statement}
 use Rattle.writing.proofs.put_entry.Tie as tie
 
@@ -16,18 +16,12 @@ put-members-requires : tie.Need-put-members-requires
 put-members-requires c κs =
     let room : c .before .before .args .at + 8 ≤ length (c .before .before .args .out .now) = omega (arith, c .before .before .pre .1, entry-length (c .before .before .args .e)) in room
 
-add-put-pattern : tie.Need-add-put-pattern
-add-put-pattern c = search needs
-
 put-pattern-requires : tie.Need-put-pattern-requires
 put-pattern-requires c κs =
     let e = c .before .before .before .before .before .before .args .e in
     let room : c .before .before .before .before .before .before .args .at + 8 + length (patternBytes (patternOf (e .pattern))) ≤ length (c .before .before .before .put-members .last .0) =
     omega (arith, c .before .before .before .before .before .before .pre .1, entry-length e, c .before .before .before .put-members .kept .0) in
     (c .before .before .before .before .before .before .pre .0, room)
-
-same-length : tie.Need-same-length
-same-length c = search needs
 
 returns : tie.Need-returns
 returns c =
@@ -41,4 +35,4 @@ returns c =
 pub put-entry-spec : {M : Type 1} → statement M
 put-entry-spec =
     tie.close
-    (tie.spec put-members-requires add-put-pattern put-pattern-requires same-length returns)
+    (tie.spec put-members-requires (λ c. search needs) put-pattern-requires (λ c. search needs) returns)

@@ -6,14 +6,14 @@ use native.Mathlib.Numerals.{add-one}
 use borrow.Author.Needs.{needs}
 use lib.ListN.{length-set}
 use lib.Seq.{sets, length-sets}
-use Rattle.base.specs.Storing.{partsFrom, left-first, left-same, Turn, turn-room, turn-goes-on, turns-end}
+use Rattle.base.specs.Storing.{partsFrom, left-first, left-same, StoringTurn, turn-room, turn-goes-on, turns-end}
 use Rattle.meaning.specs.Written.{stepBytes}
-use Rattle.writing.specs.Bytes.{pattern-bytes, pattern-length, steps-length}
+use Rattle.writing.specs.BytesWritten.{pattern-bytes, pattern-length, steps-length}
 use Rattle.writing.proofs.put_pattern.Statement.{statement}
 use Rattle.writing.proofs.put_pattern.Tie as tie
 
 abbrev Inv-loop : tie.InvT-loop
-Inv-loop out₀ at p next₀ k₀ out next k = Turn stepBytes (p .count) (p .steps) (sets out₀ next₀ (partsFrom stepBytes (p .count) 0 (p .steps))) (next₀ + 3 * p .count) out next k
+Inv-loop out₀ at p next₀ k₀ out next k = StoringTurn stepBytes (p .count) (p .steps) (sets out₀ next₀ (partsFrom stepBytes (p .count) 0 (p .steps))) (next₀ + 3 * p .count) out next k
 
 abbrev μ-loop : tie.MeasureT-loop
 μ-loop out₀ at p next₀ k₀ out next k = p .count - k
@@ -37,9 +37,6 @@ loop-holds c =
       left = left-first _ _ refl (omega (arith, steps-length _ sound)) (omega (arith, c .before .pre .1, pattern-length _ sound));
     }
 
-mul-put-step : tie.Need-mul-put-step Inv-loop μ-loop
-mul-put-step c = search needs
-
 element-copy-out-put-step : tie.Need-element-copy-out-put-step Inv-loop μ-loop
 element-copy-out-put-step c = omega (arith, c .before .before .before .before .pre .0 .few)
 
@@ -49,12 +46,6 @@ put-step-requires c κs = turn-room (c .before .before .before .loop .inv) (reco
 
 add-next-2 : tie.Need-add-next-2 Inv-loop μ-loop
 add-next-2 c = search (needs, turn-room (c .before .before .before .before .before .before .loop .inv) (record { parent = 0; axis = 0; label = 0 }) (c .before .before .before .before .before .loop-test .taken))
-
-add-k : tie.Need-add-k Inv-loop μ-loop
-add-k c = search needs
-
-loop-less : tie.Need-loop-less Inv-loop μ-loop
-loop-less c = search needs
 
 loop-again : tie.Need-loop-again Inv-loop μ-loop
 unfolding stepBytes
@@ -72,19 +63,6 @@ returns c =
 pub put-pattern-spec : {M : Type 1} → statement M
 put-pattern-spec =
     tie.close
-    (tie.spec
-    Inv-loop
-    μ-loop
-    cast-out
-    slice-write-out
-    add-next
-    loop-holds
-    mul-put-step
-    element-copy-out-put-step
-    put-step-requires
-    add-next-2
-    add-k
-    loop-less
-    loop-again
-    same-length
-    returns)
+    (tie.spec Inv-loop μ-loop cast-out slice-write-out add-next loop-holds (λ c. search needs)
+    element-copy-out-put-step put-step-requires add-next-2 (λ c. search needs) (λ c. search needs) loop-again
+    same-length returns)

@@ -5,16 +5,16 @@ use native.Mathlib.Omega.{arith}
 use borrow.Author.Needs.{needs}
 use lib.ListN.{length, length-set}
 use lib.Seq.{sets, length-sets}
-use Rattle.base.specs.Storing.{partsFrom, left-first, left-same, Turn, turn-room, turn-goes-on, turns-end}
+use Rattle.base.specs.Storing.{partsFrom, left-first, left-same, StoringTurn, turn-room, turn-goes-on, turns-end}
 use Rattle.meaning.specs.Written.{tableBytes}
 use Rattle.shapes.specs.Shapes.{tableOf}
-use Rattle.shapes.specs.Tables.{noEntry, entries-fit, entry-sound}
-use Rattle.writing.specs.Bytes.{bytesOf, table-bytes}
+use Rattle.shapes.specs.TableValues.{noEntryValue, entries-fit, entry-sound}
+use Rattle.writing.specs.BytesWritten.{bytesOf, table-bytes}
 use Rattle.writing.proofs.put_table.Statement.{statement}
 use Rattle.writing.proofs.put_table.Tie as tie
 
 abbrev Inv-loop : tie.InvT-loop
-Inv-loop out₀ t at₀ i₀ out at i = Turn bytesOf (t .count) (t .entries) (sets out₀ 1 (partsFrom bytesOf (t .count) 0 (t .entries))) (length (tableBytes (tableOf t))) out at i
+Inv-loop out₀ t at₀ i₀ out at i = StoringTurn bytesOf (t .count) (t .entries) (sets out₀ 1 (partsFrom bytesOf (t .count) 0 (t .entries))) (length (tableBytes (tableOf t))) out at i
 
 abbrev μ-loop : tie.MeasureT-loop
 μ-loop out₀ t at₀ i₀ out at i = t .count - i
@@ -36,23 +36,14 @@ loop-holds c =
       left = left-first _ _ refl (omega (arith, ap length (table-bytes _ sound))) (omega (arith, c .before .pre .1));
     }
 
-mul-put-entry : tie.Need-mul-put-entry Inv-loop μ-loop
-mul-put-entry c = search needs
-
 element-copy-out-put-entry : tie.Need-element-copy-out-put-entry Inv-loop μ-loop
 element-copy-out-put-entry c = omega (arith, c .before .before .before .before .pre .0 .few)
 
 put-entry-requires : tie.Need-put-entry-requires Inv-loop μ-loop
-put-entry-requires c κs = (entry-sound _ (c .before .before .before .before .before .pre .0) _ _ (c .before .before .loop-test .taken), turn-room (c .before .before .before .loop .inv) noEntry (c .before .before .loop-test .taken))
-
-add-i : tie.Need-add-i Inv-loop μ-loop
-add-i c = search needs
-
-loop-less : tie.Need-loop-less Inv-loop μ-loop
-loop-less c = search needs
+put-entry-requires c κs = (entry-sound _ (c .before .before .before .before .before .pre .0) _ _ (c .before .before .loop-test .taken), turn-room (c .before .before .before .loop .inv) noEntryValue (c .before .before .loop-test .taken))
 
 loop-again : tie.Need-loop-again Inv-loop μ-loop
-loop-again c = turn-goes-on (c .before .before .before .before .before .before .loop .inv) noEntry (c .before .before .before .before .before .loop-test .taken) _ _ (c .before .before .put-entry .ensures .1) (c .before .before .put-entry .ensures .0)
+loop-again c = turn-goes-on (c .before .before .before .before .before .before .loop .inv) noEntryValue (c .before .before .before .before .before .loop-test .taken) _ _ (c .before .before .put-entry .ensures .1) (c .before .before .put-entry .ensures .0)
 
 same-length : tie.Need-same-length Inv-loop μ-loop
 same-length c = left-same (c .before .loop .inv .left) ∙ simp (length-sets, length-set)
@@ -65,17 +56,5 @@ returns c =
 pub put-table-spec : {M : Type 1} → statement M
 put-table-spec =
     tie.close
-    (tie.spec
-    Inv-loop
-    μ-loop
-    cast-out
-    slice-write-out
-    loop-holds
-    mul-put-entry
-    element-copy-out-put-entry
-    put-entry-requires
-    add-i
-    loop-less
-    loop-again
-    same-length
-    returns)
+    (tie.spec Inv-loop μ-loop cast-out slice-write-out loop-holds (λ c. search needs) element-copy-out-put-entry
+    put-entry-requires (λ c. search needs) (λ c. search needs) loop-again same-length returns)

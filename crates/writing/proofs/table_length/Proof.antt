@@ -7,8 +7,8 @@ use lib.ListN.{length}
 use Rattle.base.specs.Storing.{partsFrom, parts-end}
 use Rattle.meaning.specs.Written.{tableBytes}
 use Rattle.shapes.specs.Shapes.{tableOf}
-use Rattle.shapes.specs.Tables.{noEntry, entries-fit, entry-sound}
-use Rattle.writing.specs.Bytes.{bytesOf, table-bytes, entries-length}
+use Rattle.shapes.specs.TableValues.{noEntryValue, entries-fit, entry-sound}
+use Rattle.writing.specs.BytesWritten.{bytesOf, table-bytes, entries-length}
 use Rattle.writing.proofs.table_length.Statement.{statement}
 use Rattle.writing.proofs.table_length.Tie as tie
 
@@ -30,22 +30,13 @@ element-copy-out-e c = omega (arith, c .before .before .pre .few)
 pattern-length-requires : tie.Need-pattern-length-requires Inv-loop μ-loop
 pattern-length-requires c κs = entry-sound _ (c .before .before .before .pre) _ _ (c .before .loop-test .taken)
 
-add-long : tie.Need-add-long Inv-loop μ-loop
-add-long c = search needs
-
 add-long-2 : tie.Need-add-long-2 Inv-loop μ-loop
 add-long-2 c = search (needs, c .before .before .before .before .pre .few)
-
-add-i : tie.Need-add-i Inv-loop μ-loop
-add-i c = search needs
-
-loop-less : tie.Need-loop-less Inv-loop μ-loop
-loop-less c = search needs
 
 loop-again : tie.Need-loop-again Inv-loop μ-loop
 loop-again c =
     let sound = c .before .before .before .before .pre in
-    let r = entries-length _ sound (c .before .before .before .loop .i) noEntry (c .before .before .loop-test .taken) in
+    let r = entries-length _ sound (c .before .before .before .loop .i) noEntryValue (c .before .before .loop-test .taken) in
     (omega arith, omega (arith, c .pattern-length .ensures .0, c .before .before .before .loop .inv .1), omega (arith, c .pattern-length .ensures .1))
 
 returns : tie.Need-returns Inv-loop μ-loop
@@ -56,16 +47,5 @@ returns c =
 pub table-length-spec : {M : Type 1} → statement M
 table-length-spec =
     tie.close
-    (tie.spec
-    Inv-loop
-    μ-loop
-    loop-holds
-    mul-e
-    element-copy-out-e
-    pattern-length-requires
-    add-long
-    add-long-2
-    add-i
-    loop-less
-    loop-again
-    returns)
+    (tie.spec Inv-loop μ-loop loop-holds mul-e element-copy-out-e pattern-length-requires (λ c. search needs)
+    add-long-2 (λ c. search needs) (λ c. search needs) loop-again returns)

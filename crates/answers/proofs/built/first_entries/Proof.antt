@@ -15,9 +15,6 @@ Inv-loop s v t₀ i₀ t i = FirstOnes (sheetAt s .patterns) i t
 abbrev μ-loop : tie.MeasureT-loop
 μ-loop s v t₀ i₀ t i = v .count - i
 
-no-steps-requires : tie.Need-no-steps-requires Inv-loop μ-loop
-no-steps-requires c κs = search needs
-
 loop-holds : tie.Need-loop-holds Inv-loop μ-loop
 loop-holds c = first-none _ _ refl (search needs)
 
@@ -34,12 +31,6 @@ with-entry-requires c κs =
     let l = c .before .before .before .before in
     let start = l .before .before .before in
     (l .loop .inv .sound, omega (arith, start .pre .few, l .loop .inv .counted), c .before .numbered .ensures .1)
-
-add-i : tie.Need-add-i Inv-loop μ-loop
-add-i c = search needs
-
-loop-less : tie.Need-loop-less Inv-loop μ-loop
-loop-less c = omega arith
 
 loop-again : tie.Need-loop-again Inv-loop μ-loop
 unfolding subscription
@@ -59,15 +50,5 @@ returns c =
 pub first-entries-spec : {M : Type 1} → statement M
 first-entries-spec =
     tie.close
-    (tie.spec
-    Inv-loop
-    μ-loop
-    no-steps-requires
-    loop-holds
-    numbered-requires
-    alone-requires
-    with-entry-requires
-    add-i
-    loop-less
-    loop-again
-    returns)
+    (tie.spec Inv-loop μ-loop (λ c κs. search needs) loop-holds numbered-requires alone-requires with-entry-requires
+    (λ c. search needs) (λ c. omega arith) loop-again returns)

@@ -1,13 +1,10 @@
 -- `covers_numbered` meets its contract: both numbers are looked at first.
 use native.Mathlib.Omega.{arith}
-use Rattle.patterns.specs.Subscribed.{subscriptions-stand}
+use Rattle.subscriptions.specs.Subscribed.{subscriptions-stand}
 use Rattle.answers.specs.Says.{both-there, first-not-there, second-not-there, covers-there, covers-not-there}
 use borrow.Author.Needs.{needs}
 use Rattle.answers.proofs.covered.covers_numbered.Statement.{statement}
 use Rattle.answers.proofs.covered.covers_numbered.Tie as tie
-
-subscriptions-in-requires : tie.Need-subscriptions-in-requires
-subscriptions-in-requires c κs = search needs
 
 returns : tie.Need-returns
 returns c =
@@ -31,9 +28,6 @@ numbered-requires-2 c κs =
     let start = c .before .before .before .before .before in
     (subscriptions-stand _ _ (start .pre) (c .before .before .before .subscriptions-in .ensures), omega arith)
 
-covers-requires : tie.Need-covers-requires
-covers-requires c κs = search needs
-
 returns-3 : tie.Need-returns-3
 returns-3 c =
     let start = c .before .before .before .before .before .before .before in
@@ -44,11 +38,5 @@ returns-3 c =
 pub covers-numbered-spec : {M : Type 1} → statement M
 covers-numbered-spec =
     tie.close
-    (tie.spec
-    subscriptions-in-requires
-    returns
-    returns-2
-    numbered-requires
-    numbered-requires-2
-    covers-requires
+    (tie.spec (λ c κs. search needs) returns returns-2 numbered-requires numbered-requires-2 (λ c κs. search needs)
     returns-3)

@@ -1,14 +1,11 @@
 -- `merge_numbered` meets its contract: both numbers are looked at first, and a refusal leaves the output as found.
 use native.Mathlib.Omega.{arith}
-use Rattle.patterns.specs.Subscribed.{subscriptions-stand}
+use Rattle.subscriptions.specs.Subscribed.{subscriptions-stand}
 use Rattle.answers.specs.Says.{both-there, first-not-there, second-not-there}
 use Rattle.answers.specs.Outcome.{merge-is, merge-not-there, merge-refuses, merge-same}
 use borrow.Author.Needs.{needs}
 use Rattle.answers.proofs.merged.merge_numbered.Statement.{statement}
 use Rattle.answers.proofs.merged.merge_numbered.Tie as tie
-
-subscriptions-in-requires : tie.Need-subscriptions-in-requires
-subscriptions-in-requires c κs = search needs
 
 returns : tie.Need-returns
 returns c =
@@ -32,15 +29,6 @@ numbered-requires-2 c κs =
     let start = c .before .before .before .before .before .before in
     (subscriptions-stand _ _ (start .pre) (c .before .before .before .subscriptions-in .ensures), omega arith)
 
-merge-requires : tie.Need-merge-requires
-merge-requires c κs = search needs
-
-write-merge-requires : tie.Need-write-merge-requires
-write-merge-requires c κs = search needs
-
-same-length : tie.Need-same-length
-same-length c = search needs
-
 returns-3 : tie.Need-returns-3
 returns-3 c =
     let m = c .before .before .before .before in
@@ -52,13 +40,5 @@ returns-3 c =
 pub merge-numbered-spec : {M : Type 1} → statement M
 merge-numbered-spec =
     tie.close
-    (tie.spec
-    subscriptions-in-requires
-    returns
-    returns-2
-    numbered-requires
-    numbered-requires-2
-    merge-requires
-    write-merge-requires
-    same-length
-    returns-3)
+    (tie.spec (λ c κs. search needs) returns returns-2 numbered-requires numbered-requires-2 (λ c κs. search needs)
+    (λ c κs. search needs) (λ c. search needs) returns-3)

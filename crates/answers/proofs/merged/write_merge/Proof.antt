@@ -4,22 +4,10 @@ use borrow.Author.Needs.{needs}
 use Rattle.answers.proofs.merged.write_merge.Statement.{statement}
 use Rattle.answers.proofs.merged.write_merge.Tie as tie
 
-write-pattern-requires : tie.Need-write-pattern-requires
-write-pattern-requires c κs = search needs
-
-pattern-length-requires : tie.Need-pattern-length-requires
-pattern-length-requires c κs = search needs
-
-same-length : tie.Need-same-length
-same-length c = search needs
-
 returns : tie.Need-returns
 returns c =
     let w = c .before .before .before .before .write-pattern in
     merge-written _ _ _ _ (w .ensures .0) _ (w .ensures .1) (c .before .if1 .taken) _ (c .pattern-length .ensures .0)
-
-same-length-2 : tie.Need-same-length-2
-same-length-2 c = search needs
 
 returns-2 : tie.Need-returns-2
 returns-2 c =
@@ -29,10 +17,5 @@ returns-2 c =
 pub write-merge-spec : {M : Type 1} → statement M
 write-merge-spec =
     tie.close
-    (tie.spec
-    write-pattern-requires
-    pattern-length-requires
-    same-length
-    returns
-    same-length-2
+    (tie.spec (λ c κs. search needs) (λ c κs. search needs) (λ c. search needs) returns (λ c. search needs)
     returns-2)

@@ -6,15 +6,6 @@ use borrow.Author.Needs.{needs}
 use Rattle.answers.proofs.subscribed.numbered.Statement.{statement}
 use Rattle.answers.proofs.subscribed.numbered.Tie as tie
 
-mul-x : tie.Need-mul-x
-mul-x c = search needs
-
-element-copy-out-x : tie.Need-element-copy-out-x
-element-copy-out-x c = search needs
-
-pattern-at-requires : tie.Need-pattern-at-requires
-pattern-at-requires c κs = search needs
-
 returns : tie.Need-returns
 unfolding subscription
 returns c =
@@ -23,4 +14,4 @@ returns c =
     (ap patternOf (c .pattern-at .ensures) ∙ t .0, rw (c .pattern-at .ensures) (t .1))
 
 pub numbered-spec : {M : Type 1} → statement M
-numbered-spec = tie.close (tie.spec mul-x element-copy-out-x pattern-at-requires returns)
+numbered-spec = tie.close (tie.spec (λ c. search needs) (λ c. search needs) (λ c κs. search needs) returns)

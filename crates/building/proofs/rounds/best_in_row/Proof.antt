@@ -2,7 +2,7 @@
 use Prim.Native.Nat.{_-_, _<_}
 use mathlib.Core.Logic.{⊎-elim}
 use native.Mathlib.Omega.{arith}
-use Rattle.shapes.specs.Tables.{noEntry, entry-sound}
+use Rattle.shapes.specs.TableValues.{noEntryValue, entry-sound}
 use Rattle.building.specs.Finding.{InRow, row-starts, row-better, row-no-better, row-ends}
 use Rattle.building.proofs.rounds.best_in_row.Statement.{statement}
 use Rattle.building.proofs.rounds.best_in_row.Tie as tie
@@ -19,7 +19,7 @@ loop-holds c = row-starts _ _ _ (c .before .before .pre .1)
 saves-requires : tie.Need-saves-requires Inv-loop μ-loop
 saves-requires c κs =
     let s = c .before .before .before .before .before .pre in
-    (entry-sound _ (s .0) _ noEntry (s .1), entry-sound _ (s .0) (c .before .before .loop .j) noEntry (omega arith))
+    (entry-sound _ (s .0) _ noEntryValue (s .1), entry-sound _ (s .0) (c .before .before .loop .j) noEntryValue (omega arith))
 
 loop-again : tie.Need-loop-again Inv-loop μ-loop
 loop-again c =

@@ -17,12 +17,6 @@ loop-holds c = rows-start (c .args .t) (c .pre)
 best-in-row-requires : tie.Need-best-in-row-requires Inv-loop μ-loop
 best-in-row-requires c κs = (c .before .before .before .pre, omega arith)
 
-add-i : tie.Need-add-i Inv-loop μ-loop
-add-i c = omega arith
-
-loop-less : tie.Need-loop-less Inv-loop μ-loop
-loop-less c = omega arith
-
 loop-again : tie.Need-loop-again Inv-loop μ-loop
 loop-again c = rows-go-on (c .before .before .before .loop .inv) (omega arith) (c .best-in-row .ensures)
 
@@ -32,4 +26,5 @@ returns c = rows-end (c .before .before .loop .inv) (omega arith)
 pub best-pair-spec : {M : Type 1} → statement M
 best-pair-spec =
     tie.close
-    (tie.spec Inv-loop μ-loop loop-holds best-in-row-requires add-i loop-less loop-again returns)
+    (tie.spec Inv-loop μ-loop loop-holds best-in-row-requires (λ c. omega arith) (λ c. omega arith) loop-again
+    returns)

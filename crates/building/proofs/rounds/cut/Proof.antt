@@ -5,9 +5,6 @@ use borrow.Author.Needs.{needs}
 use Rattle.building.proofs.rounds.cut.Statement.{statement}
 use Rattle.building.proofs.rounds.cut.Tie as tie
 
-sub-q : tie.Need-sub-q
-sub-q c = search needs
-
 returns : tie.Need-returns
 returns c =
     let a = c .before .before .before in
@@ -19,4 +16,4 @@ returns-2 c =
     (cut-nothing (a .args .p) (omega arith), a .pre)
 
 pub cut-spec : {M : Type 1} → statement M
-cut-spec = tie.close (tie.spec sub-q returns returns-2)
+cut-spec = tie.close (tie.spec (λ c. search needs) returns returns-2)

@@ -1,6 +1,6 @@
 -- `cut_largest` meets its contract: the cut is put where the entry with most steps stands.
 use native.Mathlib.Omega.{arith}
-use Rattle.shapes.specs.Tables.{noEntry, entry-sound}
+use Rattle.shapes.specs.TableValues.{noEntryValue, entry-sound}
 use Rattle.building.specs.Largest.{cut-empty, cut-there, cut-sound}
 use borrow.Author.Needs.{needs}
 use Rattle.building.proofs.rounds.cut_largest.Statement.{statement}
@@ -12,7 +12,7 @@ returns c = (cut-empty (c .before .args .t1) (c .if1 .taken), c .before .pre)
 cut-requires : tie.Need-cut-requires
 cut-requires c κs =
     let a = c .before .before .before in
-    entry-sound (a .args .t1) (a .pre) (c .before .largest .result) noEntry (c .before .largest .ensures .1)
+    entry-sound (a .args .t1) (a .pre) (c .before .largest .result) noEntryValue (c .before .largest .ensures .1)
 
 returns-2 : tie.Need-returns-2
 returns-2 c =

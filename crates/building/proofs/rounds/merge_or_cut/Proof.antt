@@ -1,7 +1,7 @@
 -- `merge_or_cut` meets its contract: the pair found is the definition's, and so is the merge, or the cut.
 use mathlib.Core.Path.{_∙_}
 use native.Mathlib.Omega.{arith}
-use Rattle.shapes.specs.Tables.{noEntry, entry-sound}
+use Rattle.shapes.specs.TableValues.{noEntryValue, entry-sound}
 use Rattle.building.specs.Changing.{change-cut, found-there, change-merge}
 use borrow.Author.Needs.{needs}
 use Rattle.building.proofs.rounds.merge_or_cut.Statement.{statement}
@@ -42,8 +42,8 @@ merge-requires c κs =
     let found = c .before .before .before .before in
     let b = found .best-pair in
     let there = found-there _ (b .result) (found .before .pre) (b .ensures) (c .before .before .if1 .left) in
-    let one = entry-sound _ (found .before .pre) (b .result .i) noEntry (there .0) in
-    let other = entry-sound _ (found .before .pre) (b .result .j) noEntry (there .1) in
+    let one = entry-sound _ (found .before .pre) (b .result .i) noEntryValue (there .0) in
+    let other = entry-sound _ (found .before .pre) (b .result .j) noEntryValue (there .1) in
     search needs
 
 join-at-requires : tie.Need-join-at-requires

@@ -5,15 +5,9 @@ use borrow.Author.Needs.{needs}
 use Rattle.building.proofs.rounds.round.Statement.{statement}
 use Rattle.building.proofs.rounds.round.Tie as tie
 
-merge-or-cut-requires : tie.Need-merge-or-cut-requires
-merge-or-cut-requires c κs = search needs
-
-settle-requires : tie.Need-settle-requires
-settle-requires c κs = search needs
-
 returns : tie.Need-returns
 unfolding round
 returns c = (c .settle .ensures .0 ∙ ap settle (c .before .merge-or-cut .ensures .0), c .settle .ensures .1)
 
 pub round-spec : {M : Type 1} → statement M
-round-spec = tie.close (tie.spec merge-or-cut-requires settle-requires returns)
+round-spec = tie.close (tie.spec (λ c κs. search needs) (λ c κs. search needs) returns)

@@ -5,15 +5,6 @@ use borrow.Author.Needs.{needs}
 use Rattle.building.proofs.rounds.saves.Statement.{statement}
 use Rattle.building.proofs.rounds.saves.Tie as tie
 
-merge-requires : tie.Need-merge-requires
-merge-requires c κs = search needs
-
-add-both : tie.Need-add-both
-add-both c = search needs
-
-sub-result : tie.Need-sub-result
-sub-result c = search needs
-
 returns : tie.Need-returns
 returns c =
     let a = c .before .before .before .before .before .before .before in
@@ -27,4 +18,4 @@ returns-2 c =
     omega (arith, saved-counts (a .args .p) (a .args .q) (r .result .pattern) (a .pre .0) (a .pre .1) (r .ensures .sound) (r .ensures .pattern))
 
 pub saves-spec : {M : Type 1} → statement M
-saves-spec = tie.close (tie.spec merge-requires add-both sub-result returns returns-2)
+saves-spec = tie.close (tie.spec (λ c κs. search needs) (λ c. search needs) (λ c. search needs) returns returns-2)

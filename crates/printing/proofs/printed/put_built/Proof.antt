@@ -1,28 +1,19 @@
 -- `printing::printed::put_built` meets its contract: the table put is the one built from the sheet's subscriptions.
 use mathlib.Core.Path.{_∙_, ap}
-use Rattle.patterns.specs.Subscribed.{subscriptions-stand}
-use Rattle.texts.specs.Output.{put}
+use Rattle.subscriptions.specs.Subscribed.{subscriptions-stand}
+use Rattle.texts.specs.PutText.{put}
 use Rattle.printing.specs.Printed.{text-built}
 use borrow.Author.Needs.{needs}
 use Rattle.printing.proofs.printed.put_built.Statement.{statement}
 use Rattle.printing.proofs.printed.put_built.Tie as tie
 
-subscriptions-in-requires : tie.Need-subscriptions-in-requires
-subscriptions-in-requires c κs = search needs
-
 first-entries-requires : tie.Need-first-entries-requires
 first-entries-requires c κs = subscriptions-stand _ _ (c .before .before .before .pre) (c .subscriptions-in .ensures)
-
-build-requires : tie.Need-build-requires
-build-requires c κs = search needs
 
 put-table-requires : tie.Need-put-table-requires
 put-table-requires c κs =
     let v = c .before .before .before .before in
     (c .before .before .build .ensures .3, subscriptions-stand _ _ (v .before .before .before .pre) (v .subscriptions-in .ensures) .few)
-
-same-length : tie.Need-same-length
-same-length c = search needs
 
 returns : tie.Need-returns
 returns c =
@@ -35,10 +26,5 @@ returns c =
 pub put-built-spec : {M : Type 1} → statement M
 put-built-spec =
     tie.close
-    (tie.spec
-    subscriptions-in-requires
-    first-entries-requires
-    build-requires
-    put-table-requires
-    same-length
-    returns)
+    (tie.spec (λ c κs. search needs) first-entries-requires (λ c κs. search needs) put-table-requires
+    (λ c. search needs) returns)

@@ -11,20 +11,11 @@ returns : tie.Need-returns
 unfolding patternSection
 returns c = search picks depth 15
 
-byte-at-requires : tie.Need-byte-at-requires
-byte-at-requires c κs = search needs
-
 returns-2 : tie.Need-returns-2
 unfolding patternSection
 returns-2 c =
     let over : 16 < c .before .byte-at .result = omega arith in
     rw (← (c .before .byte-at .ensures .0)) (search picks depth 15)
-
-add-steps : tie.Need-add-steps
-add-steps c = search needs
-
-steps-requires : tie.Need-steps-requires
-steps-requires c κs = search needs
 
 returns-3 : tie.Need-returns-3
 unfolding patternSection
@@ -32,4 +23,5 @@ returns-3 c = rw (← (c .before .before .byte-at .ensures .0)) (search picks de
 
 pub pattern-spec : {M : Type 1} → statement M
 pattern-spec =
-    tie.close (tie.spec returns byte-at-requires returns-2 add-steps steps-requires returns-3)
+    tie.close
+    (tie.spec returns (λ c κs. search needs) returns-2 (λ c. search needs) (λ c κs. search needs) returns-3)

@@ -9,18 +9,9 @@ returns : tie.Need-returns
 unfolding patternsPlace
 returns c = search picks depth 15
 
-byte-at-requires : tie.Need-byte-at-requires
-byte-at-requires c κs = search needs
-
 returns-2 : tie.Need-returns-2
 unfolding patternsPlace
 returns-2 c = rw (← (c .before .byte-at .ensures .0)) (search picks depth 15)
-
-add-patterns-from : tie.Need-add-patterns-from
-add-patterns-from c = search needs
-
-patterns-from-requires : tie.Need-patterns-from-requires
-patterns-from-requires c κs = search needs
 
 returns-3 : tie.Need-returns-3
 unfolding patternsPlace
@@ -29,10 +20,4 @@ returns-3 c = rw (← (c .before .before .byte-at .ensures .0)) (search picks de
 pub patterns-spec : {M : Type 1} → statement M
 patterns-spec =
     tie.close
-    (tie.spec
-    returns
-    byte-at-requires
-    returns-2
-    add-patterns-from
-    patterns-from-requires
-    returns-3)
+    (tie.spec returns (λ c κs. search needs) returns-2 (λ c. search needs) (λ c κs. search needs) returns-3)

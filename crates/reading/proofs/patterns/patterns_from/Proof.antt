@@ -4,7 +4,7 @@ use mathlib.Core.Path.{_≡_, sym}
 use Prim.Native.Nat.{_-_}
 use denote.Ref.{now}
 use Rattle.base.specs.Loops.{run, run-starts, run-ends}
-use Rattle.places.specs.Turns.{reads-on, reads-fault}
+use Rattle.places.specs.ReadingLoop.{reads-on, reads-fault}
 use Rattle.reading.specs.SheetSection.{patternSection}
 use borrow.Author.Needs.{needs}
 use native.Mathlib.Omega.{arith}
@@ -23,26 +23,11 @@ loop-holds c =
     let a = c .before .args in
     sym (run-starts (eachPlace (patternSection (now (a .s)) (a .known))) (a .n) 0 (a .p) (run (eachPlace (patternSection (now (a .s)) (a .known))) (a .n) 0 (a .p)))
 
-pattern-requires : tie.Need-pattern-requires Inv-loop μ-loop
-pattern-requires c κs = search needs
-
-enum-known-y : tie.Need-enum-known-y Inv-loop μ-loop
-enum-known-y c = search needs
-
-enum-known-m : tie.Need-enum-known-m Inv-loop μ-loop
-enum-known-m c = search needs
-
 returns : tie.Need-returns Inv-loop μ-loop
 returns c =
     let a = c .before .before .before .before .before .before .before .args in
     let l = c .before .before .before .before .before .loop in
     reads-fault (eachPlace (patternSection (now (a .s)) (a .known))) (a .n) (l .i) (l .x) _ (c .before .before .before .pattern .result) (c .before .m .given .0 .0) (omega arith) (c .before .before .before .pattern .ensures) (c .before .m .given .1) (l .inv)
-
-add-i : tie.Need-add-i Inv-loop μ-loop
-add-i c = omega arith
-
-loop-less : tie.Need-loop-less Inv-loop μ-loop
-loop-less c = omega arith
 
 loop-again : tie.Need-loop-again Inv-loop μ-loop
 loop-again c =
@@ -59,15 +44,5 @@ returns-2 c =
 pub patterns-from-spec : {M : Type 1} → statement M
 patterns-from-spec =
     tie.close
-    (tie.spec
-    Inv-loop
-    μ-loop
-    loop-holds
-    pattern-requires
-    enum-known-y
-    enum-known-m
-    returns
-    add-i
-    loop-less
-    loop-again
-    returns-2)
+    (tie.spec Inv-loop μ-loop loop-holds (λ c κs. search needs) (λ c. search needs) (λ c. search needs) returns
+    (λ c. omega arith) (λ c. omega arith) loop-again returns-2)

@@ -3,7 +3,7 @@
 use mathlib.Core.Path.{_≡_}
 use Prim.Native.Nat.{_-_, _<_}
 use denote.Ref.{now}
-use Rattle.reading.specs.Turns.{climb-starts, climb-meets, climb-tops, climb-goes-on, climb-ends}
+use Rattle.reading.specs.ClimbingLoop.{climb-starts, climb-meets, climb-tops, climb-goes-on, climb-ends}
 use borrow.Author.Needs.{needs}
 use native.Mathlib.Omega.{arith}
 use Rattle.reading.proofs.steps.climbs_to.Statement.{statement}
@@ -33,24 +33,6 @@ returns-2 c =
     let l = c .before .before .before .loop in
     climb-tops (now (a .s)) (a .p) (a .q) (a .n) (l .i) (l .at) _ (omega arith) (c .before .if1 .left) (c .if2 .taken) (l .inv .1)
 
-sub-byte-at : tie.Need-sub-byte-at Inv-loop μ-loop
-sub-byte-at c = omega arith
-
-mul-byte-at : tie.Need-mul-byte-at Inv-loop μ-loop
-mul-byte-at c = omega arith
-
-add-byte-at : tie.Need-add-byte-at Inv-loop μ-loop
-add-byte-at c = omega arith
-
-byte-at-requires : tie.Need-byte-at-requires Inv-loop μ-loop
-byte-at-requires c κs = search needs
-
-add-i : tie.Need-add-i Inv-loop μ-loop
-add-i c = omega arith
-
-loop-less : tie.Need-loop-less Inv-loop μ-loop
-loop-less c = omega arith
-
 loop-again : tie.Need-loop-again Inv-loop μ-loop
 loop-again c =
     let a = c .before .before .before .before .before .before .args in
@@ -66,17 +48,5 @@ returns-3 c =
 pub climbs-to-spec : {M : Type 1} → statement M
 climbs-to-spec =
     tie.close
-    (tie.spec
-    Inv-loop
-    μ-loop
-    loop-holds
-    returns
-    returns-2
-    sub-byte-at
-    mul-byte-at
-    add-byte-at
-    byte-at-requires
-    add-i
-    loop-less
-    loop-again
-    returns-3)
+    (tie.spec Inv-loop μ-loop loop-holds returns returns-2 (λ c. omega arith) (λ c. omega arith) (λ c. omega arith)
+    (λ c κs. search needs) (λ c. omega arith) (λ c. omega arith) loop-again returns-3)

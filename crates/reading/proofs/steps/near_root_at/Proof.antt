@@ -4,25 +4,17 @@ use Rattle.meaning.specs.Sections.{isNearRoot, nearRoot}
 use borrow.Author.Needs.{needs}
 use Rattle.reading.proofs.steps.near_root_at.Statement.{statement}
 use Rattle.reading.proofs.steps.near_root_at.Tie as tie
-use Rattle.reading.specs.SheetPlaces.{stepAt}
-
-byte-at-requires : tie.Need-byte-at-requires
-byte-at-requires c κs = search needs
+use Rattle.reading.specs.SheetPlaces.{stepAtPlace}
 
 returns : tie.Need-returns
-unfolding isNearRoot nearRoot stepAt
+unfolding isNearRoot nearRoot stepAtPlace
 returns c = rw (← (c .before .byte-at .ensures .0), ne-eqb (c .before .byte-at .result) 0 (c .if1 .taken))
 
-add-byte-at : tie.Need-add-byte-at
-add-byte-at c = search needs
-
-byte-at-requires-2 : tie.Need-byte-at-requires-2
-byte-at-requires-2 c κs = search needs
-
 returns-2 : tie.Need-returns-2
-unfolding isNearRoot nearRoot stepAt
+unfolding isNearRoot nearRoot stepAtPlace
 returns-2 c = rw (← (c .before .before .byte-at .ensures .0), ← (c .byte-at2 .ensures .0), eq-eqb (c .before .before .byte-at .result) 0 (c .before .if1 .left))
 
 pub near-root-at-spec : {M : Type 1} → statement M
 near-root-at-spec =
-    tie.close (tie.spec byte-at-requires returns add-byte-at byte-at-requires-2 returns-2)
+    tie.close
+    (tie.spec (λ c κs. search needs) returns (λ c. search needs) (λ c κs. search needs) returns-2)

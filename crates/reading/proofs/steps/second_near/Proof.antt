@@ -14,9 +14,6 @@ returns-2 : tie.Need-returns-2
 unfolding isSecondNear nearRoot
 returns-2 c = rw (eq-eqb (c .before .before .before .args .parent) 0 (c .before .if1 .left), ne-eqb (c .before .before .before .args .axis) 0 (c .if2 .taken))
 
-near-at-root-requires : tie.Need-near-at-root-requires
-near-at-root-requires c κs = search needs
-
 returns-3 : tie.Need-returns-3
 unfolding isSecondNear nearRoot
 returns-3 c =
@@ -24,4 +21,4 @@ returns-3 c =
     rw (eq-eqb (a .parent) 0 (c .before .before .if1 .left), eq-eqb (a .axis) 0 (c .before .if2 .left)) (c .near-at-root .ensures)
 
 pub second-near-spec : {M : Type 1} → statement M
-second-near-spec = tie.close (tie.spec returns returns-2 near-at-root-requires returns-3)
+second-near-spec = tie.close (tie.spec returns returns-2 (λ c κs. search needs) returns-3)

@@ -9,19 +9,13 @@ returns : tie.Need-returns
 unfolding stepLabel
 returns c = search picks depth 15
 
-byte-at-requires : tie.Need-byte-at-requires
-byte-at-requires c κs = search needs
-
 returns-2 : tie.Need-returns-2
 unfolding stepLabel
 returns-2 c = rw (← (c .before .byte-at .ensures .0)) (search picks depth 15)
-
-add-t4 : tie.Need-add-t4
-add-t4 c = search needs
 
 returns-3 : tie.Need-returns-3
 unfolding stepLabel
 returns-3 c = rw (← (c .before .byte-at .ensures .0)) (search picks depth 15)
 
 pub step-label-spec : {M : Type 1} → statement M
-step-label-spec = tie.close (tie.spec returns byte-at-requires returns-2 add-t4 returns-3)
+step-label-spec = tie.close (tie.spec returns (λ c κs. search needs) returns-2 (λ c. search needs) returns-3)

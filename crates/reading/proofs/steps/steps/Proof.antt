@@ -4,7 +4,7 @@ use mathlib.Core.Path.{_≡_, sym}
 use Prim.Native.Nat.{_-_}
 use denote.Ref.{now}
 use Rattle.base.specs.Loops.{run, run-starts, run-ends}
-use Rattle.places.specs.Turns.{reads-on, reads-fault}
+use Rattle.places.specs.ReadingLoop.{reads-on, reads-fault}
 use borrow.Author.Needs.{needs}
 use native.Mathlib.Omega.{arith}
 use Rattle.reading.proofs.steps.steps.Statement.{statement}
@@ -25,23 +25,11 @@ loop-holds c =
 step-requires : tie.Need-step-requires Inv-loop μ-loop
 step-requires c κs = (omega arith, omega arith)
 
-enum-known-y : tie.Need-enum-known-y Inv-loop μ-loop
-enum-known-y c = search needs
-
-enum-known-m : tie.Need-enum-known-m Inv-loop μ-loop
-enum-known-m c = search needs
-
 returns : tie.Need-returns Inv-loop μ-loop
 returns c =
     let a = c .before .before .before .before .before .before .before .args in
     let l = c .before .before .before .before .before .loop in
     reads-fault (stepPlace (now (a .s)) (a .known) (a .p)) (a .n) (l .k) (l .x) _ (c .before .before .before .step .result) (c .before .m .given .0 .0) (omega arith) (c .before .before .before .step .ensures) (c .before .m .given .1) (l .inv)
-
-add-k : tie.Need-add-k Inv-loop μ-loop
-add-k c = omega arith
-
-loop-less : tie.Need-loop-less Inv-loop μ-loop
-loop-less c = omega arith
 
 loop-again : tie.Need-loop-again Inv-loop μ-loop
 loop-again c =
@@ -58,15 +46,5 @@ returns-2 c =
 pub steps-spec : {M : Type 1} → statement M
 steps-spec =
     tie.close
-    (tie.spec
-    Inv-loop
-    μ-loop
-    loop-holds
-    step-requires
-    enum-known-y
-    enum-known-m
-    returns
-    add-k
-    loop-less
-    loop-again
-    returns-2)
+    (tie.spec Inv-loop μ-loop loop-holds step-requires (λ c. search needs) (λ c. search needs) returns
+    (λ c. omega arith) (λ c. omega arith) loop-again returns-2)

@@ -1,7 +1,7 @@
 -- `join_at` meets its contract: both sets of members stand at i, and j is removed.
 use mathlib.Core.Path.{refl, _∙_}
 use Rattle.settling.specs.Placing.{put-sound}
-use Rattle.settling.specs.Joining.{both-joined}
+use Rattle.settling.specs.JoinedEntries.{both-joined}
 use borrow.Author.Needs.{needs}
 use Rattle.settling.proofs.entries.join_at.Statement.{statement}
 use Rattle.settling.proofs.entries.join_at.Tie as tie

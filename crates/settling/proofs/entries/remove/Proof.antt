@@ -2,7 +2,7 @@
 use Prim.Native.Nat.{_-_, _≤_}
 use mathlib.Core.Path.{_≡_, refl}
 use native.Mathlib.Omega.{arith}
-use Rattle.shapes.specs.Tables.{noEntry}
+use Rattle.shapes.specs.TableValues.{noEntryValue}
 use Rattle.settling.specs.Removing.{Moved, moved-starts, moved-goes-on, table-removed, sound-removed}
 use Rattle.settling.proofs.entries.remove.Statement.{statement}
 use Rattle.settling.proofs.entries.remove.Tie as tie
@@ -20,7 +20,7 @@ loop-again : tie.Need-loop-again Inv-loop μ-loop
 loop-again c =
     let a = c .before .before .before .before in
     let l = c .before .before .loop in
-    (moved-goes-on (a .args .t .entries) (l .u .entries) (a .args .j) (l .k) noEntry (omega arith) (l .inv .0), l .inv .1, omega arith)
+    (moved-goes-on (a .args .t .entries) (l .u .entries) (a .args .j) (l .k) noEntryValue (omega arith) (l .inv .0), l .inv .1, omega arith)
 
 returns : tie.Need-returns Inv-loop μ-loop
 returns c =

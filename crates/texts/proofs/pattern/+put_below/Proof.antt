@@ -7,9 +7,9 @@ use Rattle.meaning.specs.Printing.{branchesText}
 use Rattle.laws.specs.Children.{childrenFrom}
 use Rattle.shapes.specs.Shapes.{stepsIn}
 use Rattle.shapes.specs.Steps.{stepIn}
-use Rattle.texts.specs.Output.{Left, left-first, left-goes-on, left-stays, left-none, left-same, put-is}
+use Rattle.texts.specs.PutText.{LeftToPut, left-first, left-goes-on, left-stays, left-none, left-same, put-is}
 use Rattle.texts.specs.StepTexts.{labelsIn}
-use Rattle.texts.specs.Branches.{branch-text, other-text, end-text, below-text}
+use Rattle.texts.specs.BranchTexts.{branch-text, other-text, end-text, below-text}
 use Prim.Native.Nat.{ℕ, _-_, _≤_, _<_}
 use borrow.Fn.Kinds.{In}
 use borrow.Fn.PlainCycle.{Measures, is, falls, and}
@@ -34,7 +34,7 @@ put-below-below t =
 
 abbrev put-below-Inv-loop : put-below-lts.InvT-loop
 put-below-Inv-loop out₀ at s v p many next₀ k₀ out next k =
-    (v ≤ k) × Left out₀ at (branchesText (labelsIn s) many (childrenFrom (stepsIn p) v v)) out next (branchesText (labelsIn s) many (childrenFrom (stepsIn p) v k))
+    (v ≤ k) × LeftToPut out₀ at (branchesText (labelsIn s) many (childrenFrom (stepsIn p) v v)) out next (branchesText (labelsIn s) many (childrenFrom (stepsIn p) v k))
 
 abbrev put-below-μ-loop : put-below-lts.MeasureT-loop
 put-below-μ-loop out₀ at s v p many next₀ k₀ out next k = p .count - k

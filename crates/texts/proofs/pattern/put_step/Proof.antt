@@ -1,21 +1,9 @@
 -- `texts::pattern::put_step` meets its contract. The axis, and then the label.
-use Rattle.texts.specs.Output.{put-then}
-use Rattle.texts.specs.Branches.{stepText}
+use Rattle.texts.specs.PutText.{put-then}
+use Rattle.texts.specs.BranchTexts.{stepText}
 use borrow.Author.Needs.{needs}
 use Rattle.texts.proofs.pattern.put_step.Statement.{statement}
 use Rattle.texts.proofs.pattern.put_step.Tie as tie
-
-put-axis-requires : tie.Need-put-axis-requires
-put-axis-requires c κs = search needs
-
-cast-put-label : tie.Need-cast-put-label
-cast-put-label c = search needs
-
-put-label-requires : tie.Need-put-label-requires
-put-label-requires c κs = search needs
-
-same-length : tie.Need-same-length
-same-length c = search needs
 
 returns : tie.Need-returns
 unfolding stepText
@@ -25,4 +13,5 @@ returns c = let l = c .before .before in
 
 pub put-step-spec : {M : Type 1} → statement M
 put-step-spec =
-    tie.close (tie.spec put-axis-requires cast-put-label put-label-requires same-length returns)
+    tie.close
+    (tie.spec (λ c κs. search needs) (λ c. search needs) (λ c κs. search needs) (λ c. search needs) returns)

@@ -6,7 +6,7 @@ use borrow.Author.Needs.{needs}
 use Rattle.laws.specs.Children.{childrenFrom, childrenOf}
 use Rattle.shapes.specs.Shapes.{stepsIn}
 use Rattle.shapes.specs.Steps.{stepIn}
-use Rattle.texts.specs.Branches.{branches, branch-counted, branch-not, all-counted}
+use Rattle.texts.specs.BranchTexts.{branches, branch-counted, branch-not, all-counted}
 use Rattle.texts.proofs.pattern.several_below.Statement.{statement}
 use Rattle.texts.proofs.pattern.several_below.Tie as tie
 
@@ -20,31 +20,10 @@ loop-holds : tie.Need-loop-holds Inv-loop μ-loop
 unfolding childrenOf
 loop-holds c = (omega arith, omega arith)
 
-mul-s : tie.Need-mul-s Inv-loop μ-loop
-mul-s c = search needs
-
-element-copy-out-s : tie.Need-element-copy-out-s Inv-loop μ-loop
-element-copy-out-s c = search needs
-
-add-k : tie.Need-add-k Inv-loop μ-loop
-add-k c = search needs
-
-cast-if1 : tie.Need-cast-if1 Inv-loop μ-loop
-cast-if1 c = search needs
-
-add-n : tie.Need-add-n Inv-loop μ-loop
-add-n c = search needs
-
-loop-less : tie.Need-loop-less Inv-loop μ-loop
-loop-less c = search needs
-
 loop-again : tie.Need-loop-again Inv-loop μ-loop
 unfolding stepIn
 loop-again c = let l = c .before .before .before .before in
     (omega arith, branch-counted (l .before .args .t1) (l .before .pre) (l .before .args .v) (l .loop .k) (l .loop .n) _ (omega arith) (c .if1 .taken) (l .loop .inv .1))
-
-loop-less-2 : tie.Need-loop-less-2 Inv-loop μ-loop
-loop-less-2 c = search needs
 
 loop-again-2 : tie.Need-loop-again-2 Inv-loop μ-loop
 unfolding stepIn
@@ -58,17 +37,5 @@ returns c = let l = c .before in
 pub several-below-spec : {M : Type 1} → statement M
 several-below-spec =
     tie.close
-    (tie.spec
-    Inv-loop
-    μ-loop
-    loop-holds
-    mul-s
-    element-copy-out-s
-    add-k
-    cast-if1
-    add-n
-    loop-less
-    loop-again
-    loop-less-2
-    loop-again-2
-    returns)
+    (tie.spec Inv-loop μ-loop loop-holds (λ c. search needs) (λ c. search needs) (λ c. search needs)
+    (λ c. search needs) (λ c. search needs) (λ c. search needs) loop-again (λ c. search needs) loop-again-2 returns)

@@ -1,0 +1,111 @@
+-- The answers of the hub's calls, from what was judged by places.
+use Prim.Native.Nat.{ℕ, _+_}
+use mathlib.Core.Path.{_≡_, sym, ap, _∙_}
+use mathlib.Core.List.{List}
+use lib.ListN.{getD}
+use Rattle.base.specs.declared.Cur.the-variants.{At, No}
+use Rattle.meaning.specs.Sections.{Sheet, Document, document, Node, Entry}
+use Rattle.meaning.specs.Routing.{plainRoute, tableRoute, tried}
+use Rattle.meaning.specs.Calls.{judged, matchesAnswer, plainAnswer, tableAnswer}
+use Rattle.meaning.specs.declared.Asked.{Asked}
+use Rattle.meaning.specs.declared.Asked.the-variants as asked
+use Rattle.meaning.specs.declared.Routed.{Routed}
+use Rattle.meaning.specs.declared.Routed.the-variants as routed
+use Rattle.meaning.specs.declared.Tabled.{Tabled}
+use Rattle.meaning.specs.declared.Tabled.the-variants as tabled
+use Rattle.shapes.specs.Shapes.{nodesAt}
+use Rattle.places.specs.Bytes.{pairAt}
+use Rattle.reading.specs.SheetPlaces.{sheetAt}
+use Rattle.documents.specs.DocumentSection.{documentPlace, nodeCountAt, documentAt}
+use Rattle.fairness.specs.FairJudged.{fairPlace, fair-judged}
+use Rattle.places.specs.Reached.{reached}
+use Rattle.routing.specs.declared.Route.{Route}
+use Rattle.documents.specs.DocumentJudged.{both-judged, document-judged, sheetDocumentPlace}
+use Rattle.routing.specs.Plain.{numberedAnswer}
+use Rattle.routing.specs.Tabling.{routeBy, route-tried}
+use Rattle.routing.specs.TableSet.{route-set}
+use Rattle.tables.specs.TableSection.{tableAt}
+
+module _ (s d : List ℕ) where
+  -- ---- the plain route
+
+  abbrev plainSays : Sheet → Document → Routed
+  plainSays sh dc = routed.Delivered (plainRoute (dc .nodes) (sh .patterns))
+
+  -- by the place that was reached
+  plain-by-place : plainAnswer s d ≡ reached (sheetDocumentPlace s d) routed.Refused (plainSays (sheetAt s) (documentAt d))
+  unfolding plainAnswer
+  plain-by-place = both-judged s d routed.Refused plainSays
+
+  -- a refusal
+  pub plain-refused : (m : ℕ) → sheetDocumentPlace s d ≡ No m → routed.Refused m ≡ plainAnswer s d
+  unfolding reached
+  plain-refused m h = sym (plain-by-place ∙ rw h)
+
+  -- ---- one subscription by its number
+
+  module _ (i : ℕ) where
+    abbrev matchSays : Sheet → Document → Asked
+    matchSays sh dc = numberedAnswer (dc .nodes) sh i
+
+    -- by the place that was reached
+    match-by-place : matchesAnswer s d i ≡ reached (sheetDocumentPlace s d) asked.Refused (matchSays (sheetAt s) (documentAt d))
+    unfolding matchesAnswer numberedAnswer
+    match-by-place = both-judged s d asked.Refused matchSays
+
+    -- a refusal
+    pub match-refused : (m : ℕ) → sheetDocumentPlace s d ≡ No m → asked.Refused m ≡ matchesAnswer s d i
+    unfolding reached
+    match-refused m h = sym (match-by-place ∙ rw h)
+
+  -- where both were judged, and the nodes stand
+  module _ (y at n : ℕ) (h : sheetDocumentPlace s d ≡ At y) (e : at ≡ nodeCountAt d + 2) (f : n ≡ pairAt d (nodeCountAt d)) where
+    -- the nodes of the document are those that stand there
+    nodes-there : documentAt d .nodes ≡ nodesAt d at n
+    unfolding documentAt
+    nodes-there = rw (e, f)
+
+    -- the plain route is delivered
+    pub plain-delivered : (set : ℕ) → set ≡ plainRoute (nodesAt d at n) (sheetAt s .patterns) → routed.Delivered set ≡ plainAnswer s d
+    unfolding reached
+    plain-delivered set r =
+        ap routed.Delivered (r ∙ ap (λ (ns : List Node). plainRoute ns (sheetAt s .patterns)) (sym nodes-there)) ∙ sym (plain-by-place ∙ rw h)
+
+    -- the subscription is answered
+    pub match-answered : (i : ℕ) (a : Asked) → a ≡ numberedAnswer (nodesAt d at n) (sheetAt s) i → a ≡ matchesAnswer s d i
+    unfolding reached
+    match-answered i a r =
+        r ∙ ap (λ (ns : List Node). numberedAnswer ns (sheetAt s) i) (sym nodes-there) ∙ sym (match-by-place i ∙ rw h)
+
+-- ---- the route by a table
+module _ (s t d : List ℕ) where
+  abbrev tableSays : Sheet → List Entry → Document → Tabled
+  tableSays sh es dc = tabled.Delivered (tableRoute (dc .nodes) es (sh .patterns)) (tried (dc .nodes) es (sh .patterns))
+
+  -- by the places that were reached, the document last
+  table-by-place : tableAnswer s t d ≡ reached (fairPlace s t) tabled.Refused (reached (documentPlace s d) tabled.Refused (tableSays (sheetAt s) (tableAt t) (documentAt d)))
+  unfolding tableAnswer
+  table-by-place =
+      fair-judged s t tabled.Refused (λ sh es. judged (document sh d) tabled.Refused (tableSays sh es))
+      ∙ ap (reached (fairPlace s t) tabled.Refused) (document-judged s d tabled.Refused (tableSays (sheetAt s) (tableAt t)))
+
+  -- the sheet or the table is refused
+  pub table-refused : (m : ℕ) → fairPlace s t ≡ No m → tabled.Refused m ≡ tableAnswer s t d
+  unfolding reached
+  table-refused m h = sym (table-by-place ∙ rw h)
+
+  module _ (y : ℕ) (h : fairPlace s t ≡ At y) where
+    -- the document is refused
+    pub document-refused : (m : ℕ) → documentPlace s d ≡ No m → tabled.Refused m ≡ tableAnswer s t d
+    unfolding reached
+    document-refused m g = sym (table-by-place ∙ rw (h, g))
+
+    -- the route by the table is delivered
+    pub table-delivered : (z at n : ℕ) (r : Route) → documentPlace s d ≡ At z → at ≡ nodeCountAt d + 2 → n ≡ pairAt d (nodeCountAt d)
+        → r ≡ routeBy (nodesAt d at n) (sheetAt s .patterns) (tableAt t) → tabled.Delivered (r .set) (r .tried) ≡ tableAnswer s t d
+    unfolding reached documentAt
+    table-delivered z at n r g a b q =
+        let ns = nodesAt d at n in
+        let set : r .set ≡ tableRoute ns (tableAt t) (sheetAt s .patterns) = ap (λ (u : Route). u .set) q ∙ route-set ns (sheetAt s .patterns) (tableAt t) in
+        let count : r .tried ≡ tried ns (tableAt t) (sheetAt s .patterns) = ap (λ (u : Route). u .tried) q ∙ route-tried ns (sheetAt s .patterns) (tableAt t) in
+        sym (table-by-place ∙ rw (h, g, ← a, ← b, ← set, ← count))

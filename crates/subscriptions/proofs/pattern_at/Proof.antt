@@ -1,0 +1,29 @@
+-- `subscriptions::pattern_at` meets its contract.
+use Rattle.subscriptions.specs.Taken.{patternAt}
+use Rattle.base.specs.Choice.{picks}
+use borrow.Author.Needs.{needs}
+use Rattle.subscriptions.proofs.pattern_at.Statement.{statement}
+use Rattle.subscriptions.proofs.pattern_at.Tie as tie
+
+returns : tie.Need-returns
+unfolding patternAt
+returns c = search picks depth 15
+
+returns-2 : tie.Need-returns-2
+unfolding patternAt
+returns-2 c = rw (← (c .before .before .byte-at .ensures .0)) (search picks depth 15)
+
+returns-3 : tie.Need-returns-3
+unfolding patternAt
+returns-3 c = rw (← (c .before .before .before .byte-at .ensures .0)) (search picks depth 15)
+
+returns-4 : tie.Need-returns-4
+unfolding patternAt
+returns-4 c = rw (← (c .before .before .before .byte-at .ensures .0), ← (c .steps-at .ensures)) (search picks depth 15)
+
+pub pattern-at-spec : {M : Type 1} → statement M
+pattern-at-spec =
+    tie.close
+    (tie.spec (λ c κs. search needs) returns (λ c κs. search needs) (λ c κs. search needs) returns-2
+    (λ c. search needs) (λ c. search needs) (λ c. search needs) (λ c κs. search needs) returns-3 (λ c. search needs)
+    (λ c κs. search needs) returns-4)
