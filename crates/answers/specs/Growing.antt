@@ -43,7 +43,8 @@ module _ (t : Table) (sound : WellFormedTable t) (e : Entry) (room : t .count < 
       patterns f m = ⊎-elim (λ q. rw q sp) (λ k. sound .patterns f k) (last-gives (entriesIn t) e (rw grown-entries at m))
 
 -- one subscription more has one entry more
-entries-last : (k : ℕ) (ps : List Forest) (p : Forest) → entriesFrom k (ps ++ (p ∷ [])) ≡ entriesFrom k ps ++ (record { members = 2 ^ (k + length ps); pattern = p } ∷ [])
+entries-last : (k : ℕ) (ps : List Forest) (p : Forest)
+    → entriesFrom k (ps ++ (p ∷ [])) ≡ entriesFrom k ps ++ (record { members = 2 ^ (k + length ps); pattern = p } ∷ [])
 unfolding entriesFrom
 entries-last k [] p = ap (λ (n : ℕ). record { members = 2 ^ n; pattern = p } ∷ []) (omega arith)
 entries-last k (q ∷ qs) p =
@@ -69,7 +70,8 @@ module _ (ps : List Forest) where
 
   -- and one more
   pub first-more : (i : ℕ) (t u : Table) (e : Entry) → i < length ps → FirstOnes i t
-      → tableOf u ≡ tableOf t ++ (entryOf e ∷ []) → u .count ≡ t .count + 1 → WellFormedTable u → e .members ≡ 2 ^ i → patternOf (e .pattern) ≡ getD ps i none → FirstOnes (i + 1) u
+      → tableOf u ≡ tableOf t ++ (entryOf e ∷ []) → u .count ≡ t .count + 1 → WellFormedTable u → e .members ≡ 2 ^ i
+      → patternOf (e .pattern) ≡ getD ps i none → FirstOnes (i + 1) u
   unfolding entryOf
   first-more i t u e h z grew counted sound one is =
       let long : length (take i ps) ≡ i = length-take-le i ps (omega arith) in

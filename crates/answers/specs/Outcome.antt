@@ -68,7 +68,8 @@ module _ (out : List ℕ) where
   pub merge-same : (v w : Writing Bool) → v ≡ w → (r : Merged) (now : List ℕ) → Gives mergeAnswer out v r now → Gives mergeAnswer out w r now
   merge-same = gives-same mergeAnswer out
 
-  module _ (p : Forest) (clipped room : Bool) (said : room ≡ leb (length (patternBytes p)) (length out)) (now : List ℕ) (over : now ≡ writtenOver out (patternBytes p)) where
+  module _ (p : Forest) (clipped room : Bool) (said : room ≡ leb (length (patternBytes p)) (length out)) (now : List ℕ)
+      (over : now ≡ writtenOver out (patternBytes p)) where
     -- where there is room the length is that of the bytes
     pub merge-written : room ≡ true → (n : ℕ) → n ≡ length (patternBytes p) → Gives mergeAnswer out (markedSays p clipped) (merged.Wrote n clipped) now
     unfolding markedSays mergeAnswer
@@ -102,7 +103,8 @@ module _ (out : List ℕ) where
   pub build-same : (v w : Writing ℕ) → v ≡ w → (r : Built) (now : List ℕ) → Gives buildAnswer out v r now → Gives buildAnswer out w r now
   build-same = gives-same buildAnswer out
 
-  module _ (es : List Entry) (rounds : ℕ) (room : Bool) (said : room ≡ leb (length (tableBytes es)) (length out)) (now : List ℕ) (over : now ≡ writtenOver out (tableBytes es)) where
+  module _ (es : List Entry) (rounds : ℕ) (room : Bool) (said : room ≡ leb (length (tableBytes es)) (length out)) (now : List ℕ)
+      (over : now ≡ writtenOver out (tableBytes es)) where
     -- where there is room the length is that of the bytes
     pub build-written : room ≡ true → (n : ℕ) → n ≡ length (tableBytes es) → Gives buildAnswer out (writes rounds (tableBytes es)) (built.Wrote n rounds) now
     unfolding buildAnswer
@@ -115,7 +117,8 @@ module _ (out : List ℕ) where
 
 -- a value that is built from one entry for each subscription is what the call says
 pub build-is : (sh : Sheet) (limit : ℕ) (first : List Entry) (m : Made) → first ≡ entriesFrom 0 (sh .patterns)
-    → tableOf (m .table) ≡ buildFrom limit first .entries → m .rounds ≡ buildFrom limit first .rounds → writes (m .rounds) (tableBytes (tableOf (m .table))) ≡ buildSays sh limit
+    → tableOf (m .table) ≡ buildFrom limit first .entries → m .rounds ≡ buildFrom limit first .rounds
+    → writes (m .rounds) (tableBytes (tableOf (m .table))) ≡ buildSays sh limit
 unfolding buildSays tableSays
 build-is sh limit first m e es rs =
     let t : buildFrom limit first ≡ build limit (sh .patterns) = ap (buildFrom limit) e ∙ build-from limit (sh .patterns) in

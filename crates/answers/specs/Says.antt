@@ -72,7 +72,8 @@ module _ (sh : Sheet) (i j : ℕ) where
       no-second false = refl
 
 -- where both are there, one covers the other or not
-pub covers-there : (sh : Sheet) (i j : ℕ) (p q : Pattern) (said : Bool) → bothThere sh i j ≡ true → patternOf p ≡ subscription sh i → patternOf q ≡ subscription sh j
+pub covers-there : (sh : Sheet) (i j : ℕ) (p q : Pattern) (said : Bool) → bothThere sh i j ≡ true → patternOf p ≡ subscription sh i
+    → patternOf q ≡ subscription sh j
     → said ≡ covers (patternOf p) (patternOf q) → asked.Said said ≡ coversSays sh i j
 unfolding coversSays
 covers-there sh i j p q said there e f is = pick-true _ _ _ (bothThere sh i j) there (ap asked.Said (is ∙ ap₂ covers e f))

@@ -56,7 +56,8 @@ module _ {A : Type 0} where
   keep-gives p [] m = elim m [ ]
   keep-gives p {x} (y ∷ ys) m = go (p y) refl (keep-gives p ys) m
     where
-      go : (b : Bool) → p y ≡ b → (List·Memᴰ x (keep p ys) → List·Memᴰ x ys × (p x ≡ true)) → List·Memᴰ x (pick b (y ∷ keep p ys) (keep p ys)) → List·Memᴰ x (y ∷ ys) × (p x ≡ true)
+      go : (b : Bool) → p y ≡ b → (List·Memᴰ x (keep p ys) → List·Memᴰ x ys × (p x ≡ true))
+          → List·Memᴰ x (pick b (y ∷ keep p ys) (keep p ys)) → List·Memᴰ x (y ∷ ys) × (p x ≡ true)
       go true e later n =
           ⊎-elim (λ q. (List·Memᴰ·head q, ap p q ∙ e)) (λ k. let r = later k in (List·Memᴰ·tail (r .0), r .1)) (List·Memᴰ·cases-cons n)
       go false e later n = let r = later n in (List·Memᴰ·tail (r .0), r .1)

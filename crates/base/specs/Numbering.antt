@@ -15,7 +15,8 @@ unfolding keep pick
 keep-append p [] ys = refl
 keep-append {A} p (x ∷ xs) ys = go (p x) (keep-append p xs ys)
   where
-    go : (b : Bool) → keep p (xs ++ ys) ≡ keep p xs ++ keep p ys → pick b (x ∷ keep p (xs ++ ys)) (keep p (xs ++ ys)) ≡ pick b (x ∷ keep p xs) (keep p xs) ++ keep p ys
+    go : (b : Bool) → keep p (xs ++ ys) ≡ keep p xs ++ keep p ys
+        → pick b (x ∷ keep p (xs ++ ys)) (keep p (xs ++ ys)) ≡ pick b (x ∷ keep p xs) (keep p xs) ++ keep p ys
     go true e = ap (λ (l : List A). x ∷ l) e
     go false e = e
 

@@ -65,7 +65,8 @@ module _ {A : Type 0} where
   total-pos f [] d h = absurd (omega arith)
   total-pos f (x ∷ xs) d h = go (f x) refl (total-pos f xs d)
     where
-      go : (n : ℕ) → f x ≡ n → (0 < total f xs → (i : ℕ) × (i < length xs) × (0 < f (getD xs i d))) → (i : ℕ) × (i < suc (length xs)) × (0 < f (getD (x ∷ xs) i d))
+      go : (n : ℕ) → f x ≡ n → (0 < total f xs → (i : ℕ) × (i < length xs) × (0 < f (getD xs i d)))
+          → (i : ℕ) × (i < suc (length xs)) × (0 < f (getD (x ∷ xs) i d))
       go zero e later = let r = later (omega arith) in (suc (r .0), omega arith, r .2)
       go (suc n) e later = (0, omega arith, omega arith)
 

@@ -32,7 +32,8 @@ module _ (p : ℕ → Bool) where
   scan-among zero i = (omega arith, omega arith)
   scan-among (suc k) i = go (p i) (scan-among k (i + 1))
     where
-      go : (b : Bool) → (i + 1 ≤ scan p k (i + 1)) × (scan p k (i + 1) ≤ i + 1 + k) → (i ≤ pick b i (scan p k (i + 1))) × (pick b i (scan p k (i + 1)) ≤ i + suc k)
+      go : (b : Bool) → (i + 1 ≤ scan p k (i + 1)) × (scan p k (i + 1) ≤ i + 1 + k)
+          → (i ≤ pick b i (scan p k (i + 1))) × (pick b i (scan p k (i + 1)) ≤ i + suc k)
       go true h = (omega arith, omega arith)
       go false h = (omega arith, omega arith)
 
@@ -52,6 +53,7 @@ module _ (p : ℕ → Bool) where
   scan-holds zero i l = absurd (omega arith)
   scan-holds (suc k) i l = go (p i) refl (scan-holds k (i + 1)) l
     where
-      go : (b : Bool) → p i ≡ b → (scan p k (i + 1) < i + 1 + k → p (scan p k (i + 1)) ≡ true) → pick b i (scan p k (i + 1)) < i + suc k → p (pick b i (scan p k (i + 1))) ≡ true
+      go : (b : Bool) → p i ≡ b → (scan p k (i + 1) < i + 1 + k → p (scan p k (i + 1)) ≡ true) → pick b i (scan p k (i + 1)) < i + suc k
+          → p (pick b i (scan p k (i + 1))) ≡ true
       go true e later m = e
       go false e later m = later (omega arith)

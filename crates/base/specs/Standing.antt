@@ -29,7 +29,8 @@ unfolding run andThen placeAfter
 run-leads f next leads zero i x y h = cc
 run-leads f next leads (suc n) i x y h = go (f i x) refl h (run-leads f next leads n (i + 1))
   where
-    go : (c : Cur) → f i x ≡ c → andThen c (λ z. run f n (i + 1) z) ≡ At y → ((z w : ℕ) → run f n (i + 1) z ≡ At w → w ≡ placeAfter next z n) → y ≡ placeAfter next (next x) n
+    go : (c : Cur) → f i x ≡ c → andThen c (λ z. run f n (i + 1) z) ≡ At y
+        → ((z w : ℕ) → run f n (i + 1) z ≡ At w → w ≡ placeAfter next z n) → y ≡ placeAfter next (next x) n
     go (At z) e q later = later z y q ∙ ap (λ (w : ℕ). placeAfter next w n) (leads i x z e)
     go (No m) e q later = let z : _≡_ {A = ℕ} 0 1 = cc in absurd (omega arith)
 
@@ -44,13 +45,15 @@ run-keeps f Good keeps (suc n) i x y g h = go (f i x) refl h (run-keeps f Good k
     go (No m) e q later = let z : _≡_ {A = ℕ} 0 1 = cc in absurd (omega arith)
 
 -- each thing of a run was read where it stands
-pub run-at : (f : ℕ → ℕ → Cur) (next : ℕ → ℕ) → ((i x y : ℕ) → f i x ≡ At y → y ≡ next x) → (n i x y j : ℕ) → run f n i x ≡ At y → j < n → (z : ℕ) × (f (i + j) (placeAfter next x j) ≡ At z)
+pub run-at : (f : ℕ → ℕ → Cur) (next : ℕ → ℕ) → ((i x y : ℕ) → f i x ≡ At y → y ≡ next x) → (n i x y j : ℕ) → run f n i x ≡ At y → j < n
+    → (z : ℕ) × (f (i + j) (placeAfter next x j) ≡ At z)
 unfolding run andThen placeAfter
 run-at f next leads zero i x y j h l = absurd (not-suc-le-zero l)
 run-at f next leads (suc n) i x y j h l = go (f i x) refl h j l (run-at f next leads n (i + 1))
   where
     go : (c : Cur) → f i x ≡ c → andThen c (λ z. run f n (i + 1) z) ≡ At y → (j : ℕ) → j < suc n
-        → ((z w k : ℕ) → run f n (i + 1) z ≡ At w → k < n → (v : ℕ) × (f (i + 1 + k) (placeAfter next z k) ≡ At v)) → (v : ℕ) × (f (i + j) (placeAfter next x j) ≡ At v)
+        → ((z w k : ℕ) → run f n (i + 1) z ≡ At w → k < n → (v : ℕ) × (f (i + 1 + k) (placeAfter next z k) ≡ At v))
+        → (v : ℕ) × (f (i + j) (placeAfter next x j) ≡ At v)
     go (No m) e q j l later = let z : _≡_ {A = ℕ} 0 1 = cc in absurd (omega arith)
     go (At z) e q zero l later = (z, rw (add-zero i) e)
     go (At z) e q (suc k) l later =
@@ -98,7 +101,8 @@ module _ {A : Type 0} (here : ℕ → A) (next : ℕ → ℕ) (test : A → Bool
   unfolding standing some
   some-hits r h t e p = sym (rw (split n i h, some, ← e, t)) ∙ p
 
-  pub some-goes-on : (r : Bool) (y : ℕ) → i < n → r ≡ false → r ≡ test (here x) → y ≡ next x → some test (standing here next x (n - i)) ≡ whole → some test (standing here next y (n - (i + 1))) ≡ whole
+  pub some-goes-on : (r : Bool) (y : ℕ) → i < n → r ≡ false → r ≡ test (here x) → y ≡ next x
+      → some test (standing here next x (n - i)) ≡ whole → some test (standing here next y (n - (i + 1))) ≡ whole
   unfolding standing some
   some-goes-on r y h t e f p = rw f (sym (rw (split n i h, some, ← e, t)) ∙ p)
 

@@ -77,7 +77,8 @@ pub record StoringTurn {A B : Type 0} (f : A → List B) (n : ℕ) (xs : List A)
   pub within : k ≤ n
   pub left : LeftToStore whole end out at (partsFrom f n k xs)
 
-module _ {A B : Type 0} {f : A → List B} {n k : ℕ} {xs : List A} {whole : List B} {end at : ℕ} {out : List B} (turn : StoringTurn f n xs whole end out at k) where
+module _ {A B : Type 0} {f : A → List B} {n k : ℕ} {xs : List A} {whole : List B} {end at : ℕ} {out : List B}
+    (turn : StoringTurn f n xs whole end out at k) where
   -- there is room for the part
   pub turn-room : (d : A) → k < n → at + length (f (getD xs k d)) ≤ length out
   turn-room d h = left-room (turn .left) (f (getD xs k d)) (partsFrom f n (k + 1) xs) (parts-go-on f n k xs (turn .fits) d h)

@@ -97,7 +97,8 @@ document-stands s d y at n h e f =
     section x z there k = nodes-inside d (getD s 0 0 + getD d 0 0) (nodeCountAt d) z (rw there at k)
 
 -- both stand where both were judged
-pub sheet-document-stand : (s d : List ℕ) (y at n : ℕ) → sheetDocumentPlace s d ≡ At y → at ≡ nodeCountAt d + 2 → n ≡ pairAt d (nodeCountAt d) → SheetStands s × NodesStand d at n
+pub sheet-document-stand : (s d : List ℕ) (y at n : ℕ) → sheetDocumentPlace s d ≡ At y → at ≡ nodeCountAt d + 2
+    → n ≡ pairAt d (nodeCountAt d) → SheetStands s × NodesStand d at n
 unfolding sheetDocumentPlace
 sheet-document-stand s d y at n h e f =
     let a = passed-on (sheetPlace s) _ y h in

@@ -22,7 +22,8 @@ use Rattle.labels.specs.LabelSection.{length-texts}
 
 module _ {B : Type 0} (s d : List ℕ) (refuse : ℕ → B) (next : Sheet → Document → B) where
   -- both were read: what follows is of the sheet and the document that stand there
-  both-read : (x : ℕ) → sheetDocumentPlace s d ≡ At x → judged (sheet s) refuse (λ sh. judged (document sh d) refuse (next sh)) ≡ next (sheetAt s) (documentAt d)
+  both-read : (x : ℕ) → sheetDocumentPlace s d ≡ At x
+      → judged (sheet s) refuse (λ sh. judged (document sh d) refuse (next sh)) ≡ next (sheetAt s) (documentAt d)
   both-read x h = both-judged s d refuse next ∙ was-reached (sheetDocumentPlace s d) x refuse (next (sheetAt s) (documentAt d)) h
 
   -- one was refused
@@ -93,7 +94,8 @@ module _ (s d : List ℕ) (n : ℕ) where
       ∙ getD-standing (textAt s) (afterLabel s) 1 (getD s 0 0) (n - 1) [] (omega arith))
 
   -- from the document's
-  pub part-of-document : (x : ℕ) → sheetDocumentPlace s d ≡ At x → getD s 0 0 < n → n - getD s 0 0 ≤ getD d 0 0 → textAt d (placeAfter (afterLabel d) 1 (n - getD s 0 0 - 1)) ≡ labelPart s d n
+  pub part-of-document : (x : ℕ) → sheetDocumentPlace s d ≡ At x → getD s 0 0 < n → n - getD s 0 0 ≤ getD d 0 0
+      → textAt d (placeAfter (afterLabel d) 1 (n - getD s 0 0 - 1)) ≡ labelPart s d n
   unfolding textsAt
   part-of-document x h a b =
       let past : n - 1 ≡ length (textsAt s 1 (getD s 0 0)) + (n - getD s 0 0 - 1) = omega (arith, length-texts s 1 (getD s 0 0)) in

@@ -20,7 +20,8 @@ unfoldable pub isFit : ℕ → Entry → Bool
 isFit n e = membersFit n (e .members)
 
 -- by the members of the entry by value
-pub fit-here : (n : ℕ) (e : shapes.Entry) (f : Entry) (members : ℕ) (r b : Bool) → entryOf e ≡ f → members ≡ e .members → r ≡ membersFit n members → r ≡ b → isFit n f ≡ b
+pub fit-here : (n : ℕ) (e : shapes.Entry) (f : Entry) (members : ℕ) (r b : Bool) → entryOf e ≡ f → members ≡ e .members
+    → r ≡ membersFit n members → r ≡ b → isFit n f ≡ b
 unfolding isFit entryOf
 fit-here n e f members r b h m k l = rw (← h, ← m) (sym k ∙ l)
 
@@ -45,7 +46,8 @@ fair-parts ps es = ap (λ (b : Bool). b && eachInOne 0 ps es) (both-every (lengt
 -- ---- each subscription, from number i on
 module _ (ps : List Forest) (es : List Entry) (i : ℕ) (whole : Bool) (left : eachInOne i (drop i ps) es ≡ whole) where
   -- one more stands
-  pub each-goes-on : (r : Bool) (p : Forest) → i < length ps → r ≡ true → r ≡ oneThatCovers p (entriesOf i es) → p ≡ getD ps i none → eachInOne (i + 1) (drop (i + 1) ps) es ≡ whole
+  pub each-goes-on : (r : Bool) (p : Forest) → i < length ps → r ≡ true → r ≡ oneThatCovers p (entriesOf i es) → p ≡ getD ps i none
+      → eachInOne (i + 1) (drop (i + 1) ps) es ≡ whole
   unfolding eachInOne
   each-goes-on r p h t e f = rw (add-one i) (sym (rw (drop-cons ps i none h, eachInOne, ← f, ← e, t)) ∙ left)
 

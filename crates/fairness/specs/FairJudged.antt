@@ -79,7 +79,8 @@ not-fit s t n r e h k =
     sym (ap (λ (b : Bool). b && eachInOne 0 (sheetAt s .patterns) (tableAt t)) so) ∙ fair-parts (sheetAt s .patterns) (tableAt t)
 
 -- otherwise fair where each subscription stands in one that covers it
-pub all-fit : (s t : List ℕ) (n : ℕ) (r q : Bool) → n ≡ length (sheetAt s .patterns) → r ≡ every (isFit n) (tableAt t) → r ≡ true → q ≡ eachInOne 0 (sheetAt s .patterns) (tableAt t) → q ≡ fairAt s t
+pub all-fit : (s t : List ℕ) (n : ℕ) (r q : Bool) → n ≡ length (sheetAt s .patterns) → r ≡ every (isFit n) (tableAt t) → r ≡ true
+    → q ≡ eachInOne 0 (sheetAt s .patterns) (tableAt t) → q ≡ fairAt s t
 unfolding fairAt
 all-fit s t n r q e h k l =
     let so : every (isFit (length (sheetAt s .patterns))) (tableAt t) ≡ true = rw (← e) (sym h ∙ k) in
@@ -87,7 +88,8 @@ all-fit s t n r q e h k l =
 
 module _ (s t : List ℕ) where
   -- where both were judged, subscriptions and entries stand
-  pub sheet-table-stand : (y : ℕ) (v : Subscriptions) (w : Entries) → sheetTablePlace s t ≡ At y → v ≡ subscriptionsOf s → w ≡ tableEntries t → SubscriptionsStand s v × EntriesStand t w
+  pub sheet-table-stand : (y : ℕ) (v : Subscriptions) (w : Entries) → sheetTablePlace s t ≡ At y → v ≡ subscriptionsOf s
+      → w ≡ tableEntries t → SubscriptionsStand s v × EntriesStand t w
   unfolding sheetTablePlace
   sheet-table-stand y v w h e f =
       let a = passed-on (sheetPlace s) _ y h in
@@ -99,7 +101,8 @@ module _ (s t : List ℕ) where
   unfolding fairPlace fairTableSection sheetTablePlace andThen
   last = go (sheetPlace s)
     where
-      go : (c : Cur) → andThen c (λ x. andThen (tablePlace s t) (λ y. pick (fairAt s t) (At y) (No 12))) ≡ andThen (andThen c (λ x. tablePlace s t)) (λ y. pick (fairAt s t) (At y) (No 12))
+      go : (c : Cur) → andThen c (λ x. andThen (tablePlace s t) (λ y. pick (fairAt s t) (At y) (No 12)))
+          ≡ andThen (andThen c (λ x. tablePlace s t)) (λ y. pick (fairAt s t) (At y) (No 12))
       go (At x) = refl
       go (No n) = refl
 
@@ -119,7 +122,8 @@ module _ (s t : List ℕ) where
   place-refused m h = sym (last ∙ rw h)
 
   -- where the table check was passed, subscriptions and entries stand
-  pub fair-stand : (y : ℕ) (v : Subscriptions) (w : Entries) → fairPlace s t ≡ At y → v ≡ subscriptionsOf s → w ≡ tableEntries t → SubscriptionsStand s v × EntriesStand t w
+  pub fair-stand : (y : ℕ) (v : Subscriptions) (w : Entries) → fairPlace s t ≡ At y → v ≡ subscriptionsOf s → w ≡ tableEntries t
+      → SubscriptionsStand s v × EntriesStand t w
   fair-stand y v w h e f =
       let a = passed-on (sheetTablePlace s t) _ y (sym last ∙ h) in
       sheet-table-stand (a .0) v w (a .1) e f

@@ -56,7 +56,8 @@ module _ (i : ℕ) (p : Forest) where
       first false h = ap (λ (n : ℕ). eqb n 1) (spoilt es) ∙ not-covered e (keep (hasMember i) es) h
 
       go : (b : Bool) → eqb (foldAlong weighed es 0) 1 ≡ oneThatCovers p (keep (hasMember i) es)
-          → eqb (foldAlong weighed es (pick b (pick (covers (e .pattern) p) 1 2) 0)) 1 ≡ oneThatCovers p (pick b (e ∷ keep (hasMember i) es) (keep (hasMember i) es))
+          → eqb (foldAlong weighed es (pick b (pick (covers (e .pattern) p) 1 2) 0)) 1
+          ≡ oneThatCovers p (pick b (e ∷ keep (hasMember i) es) (keep (hasMember i) es))
       go true later = first (covers (e .pattern) p) refl
       go false later = later
 

@@ -17,7 +17,8 @@ abbrev built : Building → BuildValues
 built x = record { length = x .length; rounds = x .rounds }
 
 module _ (s : List ℕ) where
-  pub covers-sharp : (i j : ℕ) (x y : Covering) → CoversGives s i j (byNumber (x .number) (x .said)) → CoversGives s i j (byNumber (y .number) (y .said)) → x ≡ y
+  pub covers-sharp : (i j : ℕ) (x y : Covering) → CoversGives s i j (byNumber (x .number) (x .said))
+      → CoversGives s i j (byNumber (y .number) (y .said)) → x ≡ y
   covers-sharp i j x y e f =
       let same = by-number-tells (x .number) (y .number) (x .said) (y .said) (only-one e f) in
       λ k. record { number = same .0 k; said = same .1 k }

@@ -10,7 +10,8 @@ use Rattle.hub_c.specs.declared.PlainRoute.{PlainRoute}
 use Rattle.hub_c.specs.declared.TableRoute.{TableRoute}
 
 module _ (s d : List ℕ) where
-  pub plain-route-sharp : (x y : PlainRoute) → PlainRouteGives s d (byNumber (x .number) (x .delivered)) → PlainRouteGives s d (byNumber (y .number) (y .delivered)) → x ≡ y
+  pub plain-route-sharp : (x y : PlainRoute) → PlainRouteGives s d (byNumber (x .number) (x .delivered))
+      → PlainRouteGives s d (byNumber (y .number) (y .delivered)) → x ≡ y
   plain-route-sharp x y e f =
       let same = by-number-tells (x .number) (y .number) (x .delivered) (y .delivered) (only-one e f) in
       λ i. record { number = same .0 i; delivered = same .1 i }

@@ -33,7 +33,8 @@ module _ (a b : List ℕ) (i : ℕ) (whole : Bool) where
   bytes-differ h k d p = sym (rw (drop-cons a i 0 h, drop-cons b i 0 k, ne-eqb (getD a i 0) (getD b i 0) d)) ∙ p
 
   -- a byte agrees: the rest decides
-  pub bytes-agree : i < length a → i < length b → getD a i 0 ≡ getD b i 0 → sameLabel (drop i a) (drop i b) ≡ whole → sameLabel (drop (i + 1) a) (drop (i + 1) b) ≡ whole
+  pub bytes-agree : i < length a → i < length b → getD a i 0 ≡ getD b i 0 → sameLabel (drop i a) (drop i b) ≡ whole
+      → sameLabel (drop (i + 1) a) (drop (i + 1) b) ≡ whole
   unfolding sameLabel
   bytes-agree h k e p = rw add-one (sym (rw (drop-cons a i 0 h, drop-cons b i 0 k, eq-eqb (getD a i 0) (getD b i 0) e)) ∙ p)
 

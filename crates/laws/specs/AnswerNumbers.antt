@@ -38,7 +38,8 @@ module _ {A : Type 0} where
   gives-told values = refl
 
 -- what is so told is its number and values alone: in the case y of an answer, those that y gives
-pub by-number : {E A : Type 0} (given : E → Given A) {x y : E} {g : Given A} → ToldByNumber g → x ≡ y → given x ≡ g → byNumber (given y .number) (given y .values) ≡ g
+pub by-number : {E A : Type 0} (given : E → Given A) {x y : E} {g : Given A} → ToldByNumber g → x ≡ y → given x ≡ g
+    → byNumber (given y .number) (given y .values) ≡ g
 unfolding byNumber
 by-number {A = A} given told h e =
     let s = ap given (sym h) ∙ e in
@@ -47,7 +48,8 @@ by-number {A = A} given told h e =
 -- an answer E that is a refusal with a number, or what follows
 module _ {E A : Type 0} (given : E → Given A) (refuse : ℕ → E) (told : (n : ℕ) → 1 ≤ n → ToldByNumber (given (refuse n))) where
   -- after a reading
-  judged-told : {B : Type 0} (m : Reading B) (next : B → E) → NotZero m → ((b : B) → ToldByNumber (given (next b))) → ToldByNumber (given (judged m refuse next))
+  judged-told : {B : Type 0} (m : Reading B) (next : B → E) → NotZero m → ((b : B) → ToldByNumber (given (next b)))
+      → ToldByNumber (given (judged m refuse next))
   unfolding NotZero judged
   judged-told (read b left) next h later = later b
   judged-told (refused n) next h later = told n h
@@ -115,7 +117,8 @@ module _ {A : Type 0} where
       go true = tt
       go false = omega arith
 
-  judged-writing : {B : Type 0} (m : Reading B) (next : B → Writing A) → NotZero m → ((b : B) → WritingNotZero (next b)) → WritingNotZero (judged m refuses next)
+  judged-writing : {B : Type 0} (m : Reading B) (next : B → Writing A) → NotZero m → ((b : B) → WritingNotZero (next b))
+      → WritingNotZero (judged m refuses next)
   unfolding WritingNotZero NotZero judged
   judged-writing (read b left) next h later = later b
   judged-writing (refused n) next h later = h
@@ -168,7 +171,8 @@ module _ (s left : List ℕ) (sh : Sheet) (was-read : sheet s ≡ read sh left) 
   table-0 t h = number-0 (fairTable sh t) (fair-table-numbered sh .not-zero t) (rw was-read at h)
 
 -- a label that is there
-pub label-0 : (s d : List ℕ) (n : ℕ) → labelNumber s d n ≡ 0 → (w : Went (sheet s)) × (v : Went (document (w .value) d)) × (isLabel (labelsOf (w .value) (v .value)) n ≡ true)
+pub label-0 : (s d : List ℕ) (n : ℕ) → labelNumber s d n ≡ 0
+    → (w : Went (sheet s)) × (v : Went (document (w .value) d)) × (isLabel (labelsOf (w .value) (v .value)) n ≡ true)
 unfolding labelNumber judged pick NotZero
 label-0 s d n h = by-sheet (sheet s) (sheet-numbered .not-zero s) h
   where
@@ -181,7 +185,8 @@ label-0 s d n h = by-sheet (sheet s) (sheet-numbered .not-zero s) h
     by-document sh (read dc left) z e = (record { value = dc; left = left; reads = refl }, asked (isLabel (labelsOf sh dc) n) e)
     by-document sh (refused k) z e = absurd (omega arith)
 
-    by-sheet : (m : Reading Sheet) → NotZero m → judged m (λ k. k) (λ sh. judged (document sh d) (λ k. k) (λ dc. pick (isLabel (labelsOf sh dc) n) done notThere)) ≡ 0
+    by-sheet : (m : Reading Sheet) → NotZero m
+        → judged m (λ k. k) (λ sh. judged (document sh d) (λ k. k) (λ dc. pick (isLabel (labelsOf sh dc) n) done notThere)) ≡ 0
         → (w : Went m) × (v : Went (document (w .value) d)) × (isLabel (labelsOf (w .value) (v .value)) n ≡ true)
     by-sheet (read sh left) z e =
         let r = by-document sh (document sh d) (document-numbered sh .not-zero d) e in
@@ -218,7 +223,9 @@ plain-route-number s d = by-sheet (sheet s)
     by-document sh (read dc left) = refl
     by-document sh (refused n) = refl
 
-    by-sheet : (m : Reading Sheet) → routedGiven (judged m routed.Refused (λ sh. judged (document sh d) routed.Refused (route sh))) .number ≡ judged m (λ n. n) (λ sh. numberOf (document sh d))
+    by-sheet : (m : Reading Sheet)
+        → routedGiven (judged m routed.Refused (λ sh. judged (document sh d) routed.Refused (route sh))) .number
+        ≡ judged m (λ n. n) (λ sh. numberOf (document sh d))
     by-sheet (read sh left) = by-document sh (document sh d)
     by-sheet (refused n) = refl
 
@@ -235,12 +242,14 @@ table-route-number s t d = by-sheet (sheet s)
     by-document sh es (refused n) = refl
 
     by-table : (sh : Sheet) (m : Reading (List Entry)) → NotZero m
-        → tabledGiven (judged m tabled.Refused (λ es. judged (document sh d) tabled.Refused (route sh es))) .number ≡ firstFault (numberOf m) (numberOf (document sh d))
+        → tabledGiven (judged m tabled.Refused (λ es. judged (document sh d) tabled.Refused (route sh es))) .number
+        ≡ firstFault (numberOf m) (numberOf (document sh d))
     by-table sh (read es left) h = by-document sh es (document sh d)
     by-table sh (refused n) h = earlier-fault n (numberOf (document sh d)) h
 
     by-sheet : (m : Reading Sheet)
-        → tabledGiven (judged m tabled.Refused (λ sh. judged (fairTable sh t) tabled.Refused (λ es. judged (document sh d) tabled.Refused (route sh es)))) .number
+        → tabledGiven (judged m tabled.Refused
+        (λ sh. judged (fairTable sh t) tabled.Refused (λ es. judged (document sh d) tabled.Refused (route sh es)))) .number
         ≡ firstFault (judged m (λ n. n) (λ sh. numberOf (fairTable sh t))) (judged m (λ n. n) (λ sh. numberOf (document sh d)))
     by-sheet (read sh left) = by-table sh (fairTable sh t) (fair-table-numbered sh .not-zero t)
     by-sheet (refused n) = same-fault n
@@ -304,7 +313,8 @@ module _ (s : List ℕ) where
   pub plain-route-zeros : (d : List ℕ) (g : Given ℕ) → PlainRouteGives s d g → 1 ≤ g .number → g ≡ refusal (g .number) 0
   plain-route-zeros d = zeros-of routedGiven 0 routed-cases (plainAnswer s d) (plain-route-told s d)
 
-  pub table-route-zeros : (t d : List ℕ) (g : Given RouteValues) → TableRouteGives s t d g → 1 ≤ g .number → g ≡ refusal (g .number) (record { set = 0; tried = 0 })
+  pub table-route-zeros : (t d : List ℕ) (g : Given RouteValues) → TableRouteGives s t d g → 1 ≤ g .number
+      → g ≡ refusal (g .number) (record { set = 0; tried = 0 })
   table-route-zeros t d = zeros-of tabledGiven _ tabled-cases (tableAnswer s t d) (table-route-told s t d)
 
   -- and the output is as found

@@ -94,7 +94,8 @@ module _ (parents : List ℕ) where
     is-below n t u l h = more-times u (length parents) t u l (fewer-times n t u l h)
 
     -- what is below t is a child of t or below a child of t
-    split-in : (n t u : ℕ) → u ≤ length parents → isBelowIn n parents t u ≡ true → (isChild parents t u ≡ true) ⊎ ByChild parents t (λ w. isBelowIn n parents w u)
+    split-in : (n t u : ℕ) → u ≤ length parents → isBelowIn n parents t u ≡ true
+        → (isChild parents t u ≡ true) ⊎ ByChild parents t (λ w. isBelowIn n parents w u)
     unfolding isBelowIn
     split-in zero t u l h = absurd (false≢true h)
     split-in (suc n) t zero l h = absurd (root-below-none (suc n) t h)

@@ -151,7 +151,8 @@ module _ (s left : List ℕ) (sh : Sheet) (was-read : sheet s ≡ read sh left) 
       (sheet-read s left sh was-read .sound _ (place-in (sh .patterns) i none (ltb-true i (length (sh .patterns)) h)) .within)
 
   -- the document satisfies a subscription exactly if it does by label bytes
-  pub read-by-bytes : (i : ℕ) → isSubscription sh i ≡ true → (satisfies (dc .nodes) (subscription sh i) ≡ true) ↔ Satisfied (labelsOf sh dc) (dc .nodes) (subscription sh i)
+  pub read-by-bytes : (i : ℕ) → isSubscription sh i ≡ true
+      → (satisfies (dc .nodes) (subscription sh i) ≡ true) ↔ Satisfied (labelsOf sh dc) (dc .nodes) (subscription sh i)
   read-by-bytes i there =
       satisfies-by-bytes (labelsOf sh dc) (document-distinct s left sh was-read d rest dc doc-read) (dc .nodes) (document-known sh d rest dc doc-read) (subscription sh i)
       (labels-known i there)

@@ -85,7 +85,8 @@ document-of-0 = answers.document-0
 pub table-of-0 : (s left : List ℕ) (sh : Sheet) → sheet s ≡ read sh left → (t : List ℕ) → tableNumber s t ≡ 0 → Went (fairTable sh t)
 table-of-0 = answers.table-0
 
-pub label-of-0 : (s d : List ℕ) (n : ℕ) → labelNumber s d n ≡ 0 → (w : Went (sheet s)) × (v : Went (document (w .value) d)) × (isLabel (labelsOf (w .value) (v .value)) n ≡ true)
+pub label-of-0 : (s d : List ℕ) (n : ℕ) → labelNumber s d n ≡ 0
+    → (w : Went (sheet s)) × (v : Went (document (w .value) d)) × (isLabel (labelsOf (w .value) (v .value)) n ≡ true)
 label-of-0 = answers.label-0
 
 -- and the other calls are refused exactly if the number that they give is not 0
@@ -138,7 +139,8 @@ module _ (s : List ℕ) where
   pub plain-route-refused : (d : List ℕ) (g : Given ℕ) → PlainRouteGives s d g → 1 ≤ g .number → g ≡ refusal (g .number) 0
   plain-route-refused = answers.plain-route-zeros s
 
-  pub table-route-refused : (t d : List ℕ) (g : Given RouteValues) → TableRouteGives s t d g → 1 ≤ g .number → g ≡ refusal (g .number) (record { set = 0; tried = 0 })
+  pub table-route-refused : (t d : List ℕ) (g : Given RouteValues) → TableRouteGives s t d g → 1 ≤ g .number
+      → g ≡ refusal (g .number) (record { set = 0; tried = 0 })
   table-route-refused = answers.table-route-zeros s
 
   pub label-refused : (d : List ℕ) (n : ℕ) → 1 ≤ labelNumber s d n → labelPart s d n ≡ []
@@ -252,7 +254,8 @@ pub record InJustOne (p : Forest) (having : List Entry) : Type 0 where
 
 module _ (s left : List ℕ) (sh : Sheet) (was-read : sheet s ≡ read sh left) where
   -- of a table that passes the check
-  pub passing : (t : List ℕ) → tableNumber s t ≡ 0 → (w : Went (fairTable sh t)) × ((i : ℕ) → isSubscription sh i ≡ true → InJustOne (subscription sh i) (entriesOf i (w .value)))
+  pub passing : (t : List ℕ) → tableNumber s t ≡ 0
+      → (w : Went (fairTable sh t)) × ((i : ℕ) → isSubscription sh i ≡ true → InJustOne (subscription sh i) (entriesOf i (w .value)))
   unfolding isSubscription subscription
   passing t h =
       let w = table-of-0 s left sh was-read t h in
@@ -266,7 +269,8 @@ module _ (s left : List ℕ) (sh : Sheet) (was-read : sheet s ≡ read sh left) 
   -- a document that was read beside it
   module _ (d rest : List ℕ) (dc : Document) (doc-read : document sh d ≡ read dc rest) where
     -- bit i of the plain route is set exactly if there is a subscription i, and the document satisfies it
-    pub delivered : (i : ℕ) → (isMember (plainRoute (dc .nodes) (sh .patterns)) i ≡ true) ↔ ((isSubscription sh i ≡ true) × Satisfied (labelsOf sh dc) (dc .nodes) (subscription sh i))
+    pub delivered : (i : ℕ) → (isMember (plainRoute (dc .nodes) (sh .patterns)) i ≡ true) ↔
+        ((isSubscription sh i ≡ true) × Satisfied (labelsOf sh dc) (dc .nodes) (subscription sh i))
     unfolding isSubscription subscription
     delivered i =
         let bit = delivered-bit (dc .nodes) (sh .patterns) i in

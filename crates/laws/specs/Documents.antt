@@ -72,7 +72,9 @@ module _ (ns : List Node) (rises : Rising (parentsOf ns)) where
       rw (parents-near ns, axis-near ns u, label-near ns u, lies-near x l (labelIn ns u), same)
 
   -- some node that may be looked at fits a step exactly if the step finds a place
-  module _ (x : Axis) (l : ℕ) (kids : Forest) (same : (u : ℕ) → u ≤ length ns → holdBelow ns kids u ≡ lays kids (childrenOf (map nearStep ns) u)) (t : ℕ) (low : t ≤ length ns) where
+  module _ (x : Axis) (l : ℕ) (kids : Forest)
+      (same : (u : ℕ) → u ≤ length ns → holdBelow ns kids u ≡ lays kids (childrenOf (map nearStep ns) u)) (t : ℕ)
+      (low : t ≤ length ns) where
     -- the node fits the step
     fits : ℕ → Bool
     fits u = fitsBelow ns t x l (holdBelow ns kids) u

@@ -67,7 +67,8 @@ module _ (P : Forest → Type 0) (k : Lasting P) where
   start-each i [] h e m = elim m [ ]
   start-each i (p ∷ ps) h e m = go (start-each (suc i) ps (λ q t. h q (List·Memᴰ·tail t)) e) (List·Memᴰ·cases-cons m)
     where
-      go : (List·Memᴰ e (entriesFrom (suc i) ps) → P (e .pattern)) → (e ≡ record { members = 2 ^ i; pattern = p }) ⊎ List·Memᴰ e (entriesFrom (suc i) ps) → P (e .pattern)
+      go : (List·Memᴰ e (entriesFrom (suc i) ps) → P (e .pattern))
+          → (e ≡ record { members = 2 ^ i; pattern = p }) ⊎ List·Memᴰ e (entriesFrom (suc i) ps) → P (e .pattern)
       go later (inl u) = subst (λ (f : Entry). P (f .pattern)) (sym u) (h p (List·Memᴰ·head refl))
       go later (inr t) = later t
 
@@ -89,7 +90,8 @@ unfolding merge
 steps-last = record { merges = merge-size mostSteps; cuts = λ p h. omega (arith, size-cut-le p) }
 
 -- so has every entry of a build
-pub build-steps : (limit : ℕ) (ps : List Forest) → ((p : Forest) → List·Memᴰ p ps → size p ≤ mostSteps) → EachPattern (λ p. size p ≤ mostSteps) (build limit ps .entries)
+pub build-steps : (limit : ℕ) (ps : List Forest) → ((p : Forest) → List·Memᴰ p ps → size p ≤ mostSteps)
+    → EachPattern (λ p. size p ≤ mostSteps) (build limit ps .entries)
 build-steps = build-keeps (λ p. size p ≤ mostSteps) steps-last
 
 -- ---- known labels
@@ -108,7 +110,8 @@ unfolding merge
 labels-last n = record { merges = merge-labels mostSteps n; cuts = cut-labels n }
 
 -- so has every entry of a build
-pub build-labels : (n limit : ℕ) (ps : List Forest) → ((p : Forest) → List·Memᴰ p ps → LabelsWithin n p) → EachPattern (LabelsWithin n) (build limit ps .entries)
+pub build-labels : (n limit : ℕ) (ps : List Forest) → ((p : Forest) → List·Memᴰ p ps → LabelsWithin n p)
+    → EachPattern (LabelsWithin n) (build limit ps .entries)
 build-labels n = build-keeps (LabelsWithin n) (labels-last n)
 
 -- ---- one near root step

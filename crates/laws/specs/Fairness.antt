@@ -128,7 +128,8 @@ module _ (es : List Entry) (at : ℕ) (h : at < length es) where
           let same : counted i (cutEntry (entryAt es at)) ≡ counted i (entryAt es at) = refl in
           omega (arith, total-set (counted i) es at (cutEntry (entryAt es at)) noEntry h)
 
-      covered : (i : ℕ) (p : Forest) → Stands i p es → (e : Entry) → List·Memᴰ e (set es at (cutEntry (entryAt es at))) → hasMember i e ≡ true → covers (e .pattern) p ≡ true
+      covered : (i : ℕ) (p : Forest) → Stands i p es → (e : Entry) → List·Memᴰ e (set es at (cutEntry (entryAt es at)))
+          → hasMember i e ≡ true → covers (e .pattern) p ≡ true
       covered i p s e m t = go (set-gives es at (cutEntry (entryAt es at)) m)
         where
           go : (e ≡ cutEntry (entryAt es at)) ⊎ List·Memᴰ e es → covers (e .pattern) p ≡ true

@@ -80,7 +80,8 @@ document-rises sh bs left d h =
 -- ---- steps
 
 -- the path after one step more
-pub path-after : (k : ℕ) (path : List ℕ) (ss : List Step) (s : Step) → pathAfter k path (ss ++ (s ∷ [])) ≡ (k + length ss) ∷ upFrom (s .parent) (pathAfter k path ss)
+pub path-after : (k : ℕ) (path : List ℕ) (ss : List Step) (s : Step)
+    → pathAfter k path (ss ++ (s ∷ [])) ≡ (k + length ss) ∷ upFrom (s .parent) (pathAfter k path ss)
 unfolding pathAfter
 path-after k path [] s = ap {B = List ℕ} (λ (n : ℕ). n ∷ upFrom (s .parent) path) (omega arith)
 path-after k path (r ∷ ss) s =

@@ -68,7 +68,8 @@ one-more before text new apart i j h l e = go (eq-or-lt-of-le l′)
         apart i j h q (sym (List·getD-append before (text ∷ []) [] i (omega arith)) ∙ e ∙ List·getD-append before (text ∷ []) [] j q)
 
 -- labels that were read after distinct ones are distinct, from them and among themselves
-labels-distinct : (n : ℕ) (before : List (List ℕ)) (bs : List ℕ) (ls : List (List ℕ)) (left : List ℕ) → labels n before bs ≡ read ls left → Distinct before → Distinct (before ++ ls)
+labels-distinct : (n : ℕ) (before : List (List ℕ)) (bs : List ℕ) (ls : List (List ℕ)) (left : List ℕ)
+    → labels n before bs ≡ read ls left → Distinct before → Distinct (before ++ ls)
 unfolding labels
 labels-distinct zero before bs ls left h apart =
     let made = give-read [] bs h in
@@ -97,7 +98,8 @@ sheet-distinct s left sh h =
     rw (sym (made .0)) apart
 
 -- and with them those of a document that was read beside it: two label numbers stand for the same bytes only if they are equal
-pub document-distinct : (s left : List ℕ) (sh : Sheet) → sheet s ≡ read sh left → (d rest : List ℕ) (dc : Document) → document sh d ≡ read dc rest → Distinct (labelsOf sh dc)
+pub document-distinct : (s left : List ℕ) (sh : Sheet) → sheet s ≡ read sh left → (d rest : List ℕ) (dc : Document)
+    → document sh d ≡ read dc rest → Distinct (labelsOf sh dc)
 unfolding labelsOf
 document-distinct s left sh h d rest dc k =
     let r = document-read sh d rest dc k in

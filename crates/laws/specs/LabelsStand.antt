@@ -39,7 +39,8 @@ section-stands ls n rest h =
     record { after = r .0; stands = ap (λ (bs : List ℕ). length ls ∷ bs) (r .1) }
 
 -- label n of a sheet stands in the sheet
-pub sheet-label-stands : (s left : List ℕ) (sh : Sheet) → sheet s ≡ read sh left → (dc : Document) (n : ℕ) → n < length (sh .labels) → StandsIn s (sh .labels) n (labelAt (labelsOf sh dc) (suc n))
+pub sheet-label-stands : (s left : List ℕ) (sh : Sheet) → sheet s ≡ read sh left → (dc : Document) (n : ℕ) → n < length (sh .labels)
+    → StandsIn s (sh .labels) n (labelAt (labelsOf sh dc) (suc n))
 unfolding labelsOf labelAt sheetBytes
 sheet-label-stands s left sh h dc n l =
     rw (← sheet-read s left sh h .stood, List·getD-append (sh .labels) (dc .labels) [] n)

@@ -80,7 +80,8 @@ module _ (a b : List Step) (rises-a : Rising (stepParents a)) (rises-b : Rising 
   laid-below zero t l e = children-lie a rises-a (childrenOf b (m .place t)) t l (λ k o h q p. absurd (omega arith))
   laid-below (suc n) t l e = children-lie a rises-a (childrenOf b (m .place t)) t l (λ k o h q p. at k o h p (laid-below n k h (omega arith)))
     where
-      at : (k : ℕ) → 1 ≤ k → k ≤ length a → stepAt a k .parent ≡ t → lays (childrenOf a k) (childrenOf b (m .place k)) ≡ true → FindsPlace a (childrenOf b (m .place t)) k
+      at : (k : ℕ) → 1 ≤ k → k ≤ length a → stepAt a k .parent ≡ t → lays (childrenOf a k) (childrenOf b (m .place k)) ≡ true
+          → FindsPlace a (childrenOf b (m .place t)) k
       at k o h p inner =
           let w : LiesWell b (stepAt a k) (m .place t) (m .place k) =
           subst (λ (q : ℕ). LiesWell b (stepAt a k) (m .place q) (m .place k)) p (m .lies k o h) in

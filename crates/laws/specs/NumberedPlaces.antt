@@ -80,7 +80,8 @@ module _ (ss : List Step) (passes : Axis → ℕ → Forest → Bool) where
     hit-child zero k t u l a b c h = absurd (omega arith)
     hit-child (suc m) k t u l a b c h = go (isChild (stepParents ss) t (suc k)) refl (eq-or-lt-of-le a) (λ q. hit-child m (suc k) t u (omega arith) q b c h)
       where
-        go : (y : Bool) → isChild (stepParents ss) t (suc k) ≡ y → (suc k ≡ u) ⊎ (suc k < u) → (suc k < u → finds x passes (childrenFrom ss t (suc k)) ≡ true) → finds x passes (childrenFrom ss t k) ≡ true
+        go : (y : Bool) → isChild (stepParents ss) t (suc k) ≡ y → (suc k ≡ u) ⊎ (suc k < u)
+            → (suc k < u → finds x passes (childrenFrom ss t (suc k)) ≡ true) → finds x passes (childrenFrom ss t k) ≡ true
         go true e (inl q) later = finds-here x t k (omega arith) e ∙ or-first (hits ss passes x (suc k)) _ (rw q h)
         go true e (inr q) later = finds-here x t k (omega arith) e ∙ or-second (hits ss passes x (suc k)) _ (later q)
         go false e (inl q) later = absurd (false≢true (sym e ∙ rw q c))
@@ -124,7 +125,8 @@ module _ (ss : List Step) (rises : Rising (stepParents ss)) (passes : Axis → �
   finds-spot far t l h = far-gives (length ss) t (omega arith) l h
 
   -- a child of t that is hit is found below t
-  found : (x : Axis) (t u : ℕ) → 1 ≤ u → u ≤ length ss → isChild (stepParents ss) t u ≡ true → hits ss passes x u ≡ true → finds x passes (childrenOf ss t) ≡ true
+  found : (x : Axis) (t u : ℕ) → 1 ≤ u → u ≤ length ss → isChild (stepParents ss) t u ≡ true → hits ss passes x u ≡ true
+      → finds x passes (childrenOf ss t) ≡ true
   unfolding childrenOf
   found x t u a b c h =
       let low = child-above (stepParents ss) rises t u (omega (arith, parents-length ss)) c in

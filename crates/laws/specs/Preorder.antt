@@ -56,7 +56,8 @@ unfolding upFrom pick
 up-found p [] m = absurd (List·Memᴰ·not-nil m)
 up-found p (q ∷ path) m = go (eqb q p) refl (up-found p path)
   where
-    go : (t : Bool) → eqb q p ≡ t → (List·Memᴰ p path → (above : List ℕ) × (upFrom p path ≡ p ∷ above)) → (above : List ℕ) × (pick t (q ∷ path) (upFrom p path) ≡ p ∷ above)
+    go : (t : Bool) → eqb q p ≡ t → (List·Memᴰ p path → (above : List ℕ) × (upFrom p path ≡ p ∷ above))
+        → (above : List ℕ) × (pick t (q ∷ path) (upFrom p path) ≡ p ∷ above)
     go true e later = (path, ap {B = List ℕ} (λ n. n ∷ path) (eqb-true q p e))
     go false e later = ⊎-elim (λ z. absurd (eqb-false q p e (sym z))) later (List·Memᴰ·cases-cons m)
 
@@ -65,7 +66,8 @@ pub next-falling : (k p : ℕ) (path : List ℕ) → Falling k path → Falling 
 next-falling k p path f = (omega arith, up-falling k p path f)
 
 -- ---- parents have lower numbers
-pub hanging-rises : (k : ℕ) (path : List ℕ) (ss : List Step) → Falling k path → Hanging k path ss → (i : ℕ) → i < length (stepParents ss) → getD (stepParents ss) i 0 < k + i
+pub hanging-rises : (k : ℕ) (path : List ℕ) (ss : List Step) → Falling k path → Hanging k path ss → (i : ℕ)
+    → i < length (stepParents ss) → getD (stepParents ss) i 0 < k + i
 unfolding stepParents
 hanging-rises k path [] f h i l = absurd (omega arith)
 hanging-rises k path (s ∷ ss) f h zero l = omega (arith, falling-below k path (s .parent) f (h .0))
@@ -113,7 +115,8 @@ spelled-later (p ∷ path) j k s ss out =
     (ap (λ l. stepsFrom p j (childrenIn p (suc k) ss) ++ l) (spelled-later path _ k s ss (λ m. out (List·Memᴰ·tail m))))
 
 -- on the part of the path below its parent nothing hangs
-spelled-up : (b k : ℕ) (path : List ℕ) (s : Step) (ss : List Step) → b ≤ k → Falling b path → List·Memᴰ (s .parent) path → Hanging (suc k) (k ∷ upFrom (s .parent) path) ss
+spelled-up : (b k : ℕ) (path : List ℕ) (s : Step) (ss : List Step) → b ≤ k → Falling b path → List·Memᴰ (s .parent) path
+    → Hanging (suc k) (k ∷ upFrom (s .parent) path) ss
     → spelled path k k (s ∷ ss) ≡ spelled (upFrom (s .parent) path) k k (s ∷ ss)
 unfolding spelled upFrom pick stepsFrom size
 spelled-up b k [] s ss l f m h = refl

@@ -42,7 +42,8 @@ module _ {A B : Type 0} where
 
 module _ {B : Type 0} where
   -- a test held, and reading went on from the same place
-  pub test-read : (n : ℕ) (t : Bool) (next : Reader B) (s : List ℕ) {b : B} {left : List ℕ} → _>>_ (unless n t) next s ≡ read b left → (t ≡ true) × (next s ≡ read b left)
+  pub test-read : (n : ℕ) (t : Bool) (next : Reader B) (s : List ℕ) {b : B} {left : List ℕ} → _>>_ (unless n t) next s ≡ read b left
+      → (t ≡ true) × (next s ≡ read b left)
   unfolding _>>_ unless go-on
   test-read n true next s h = (refl, h)
   test-read n false next s h = absurd (refused-not-read h)

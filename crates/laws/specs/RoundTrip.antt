@@ -146,7 +146,8 @@ table-again sh es h =
     read-test _ _ _ _ (le-leb (length es) mostEntries (h .few)) ∙ read-bind (repeat (length es) (entry known)) _ _ es [] all
 
 -- no two different sound tables have the same bytes
-pub tables-apart : (sh : Sheet) (es fs : List Entry) → SoundTable (length (sh .labels)) es → SoundTable (length (sh .labels)) fs → tableBytes es ≡ tableBytes fs → es ≡ fs
+pub tables-apart : (sh : Sheet) (es fs : List Entry) → SoundTable (length (sh .labels)) es → SoundTable (length (sh .labels)) fs
+    → tableBytes es ≡ tableBytes fs → es ≡ fs
 tables-apart sh es fs p q e =
     let one = table-again sh es p in
     let other = table-again sh fs q in

@@ -72,7 +72,8 @@ fair-table-fair sh t left es h =
     ap (fair (sh .patterns)) (sym (give-read (r .value) (r .middle) (judge .1) .0)) ∙ judge .0
 
 -- bit i of the plain route is set exactly if there is a pattern i, and the document satisfies it
-pub delivered-bit : (ns : List Node) (ps : List Forest) (i : ℕ) → (isMember (plainRoute ns ps) i ≡ true) ↔ ((ltb i (length ps) ≡ true) × (satisfies ns (getD ps i none) ≡ true))
+pub delivered-bit : (ns : List Node) (ps : List Forest) (i : ℕ)
+    → (isMember (plainRoute ns ps) i ≡ true) ↔ ((ltb i (length ps) ≡ true) × (satisfies ns (getD ps i none) ≡ true))
 unfolding plainRoute
 delivered-bit ns ps i = (λ h. to h (true-or-false (ltb i (length ps))), λ (there, h). said there ∙ h)
   where
@@ -85,6 +86,7 @@ delivered-bit ns ps i = (λ h. to h (true-or-false (ltb i (length ps))), λ (the
     past : ltb i (length ps) ≡ false → isMember (deliverySet (map (satisfies ns) ps)) i ≡ false
     past e = bit ∙ List·getD-eq-default (map (satisfies ns) ps) false (omega (arith, length-map ps (satisfies ns), ltb-false i (length ps) e))
 
-    to : isMember (deliverySet (map (satisfies ns) ps)) i ≡ true → (ltb i (length ps) ≡ true) ⊎ (ltb i (length ps) ≡ false) → (ltb i (length ps) ≡ true) × (satisfies ns (getD ps i none) ≡ true)
+    to : isMember (deliverySet (map (satisfies ns) ps)) i ≡ true → (ltb i (length ps) ≡ true) ⊎ (ltb i (length ps) ≡ false)
+        → (ltb i (length ps) ≡ true) × (satisfies ns (getD ps i none) ≡ true)
     to h (inl e) = (e, sym (said e) ∙ h)
     to h (inr e) = absurd (not-both _ h (past e))

@@ -54,7 +54,8 @@ times-settled zero [] h = refl
 times-settled zero (e ∷ es) h = absurd (omega arith)
 times-settled (suc n) es h = go (covering es) refl (times-settled n)
   where
-    go : (cs : List Pair) → cs ≡ covering es → ((fs : List Entry) → length fs ≤ n → covering (settleTimes n fs) ≡ []) → covering (settleTimes n (settleAt cs es)) ≡ []
+    go : (cs : List Pair) → cs ≡ covering es → ((fs : List Entry) → length fs ≤ n → covering (settleTimes n fs) ≡ [])
+        → covering (settleTimes n (settleAt cs es)) ≡ []
     go [] e later = ap covering (settled-stays n es (sym e)) ∙ sym e
     go (ij ∷ more) e later =
         let r = covering-gives es (subst (λ (cs : List Pair). List·Memᴰ ij cs) e (List·Memᴰ·head refl)) in

@@ -26,7 +26,8 @@ SoundSteps known before (s ∷ ss) = SoundStep known before s × SoundSteps know
 
 module _ (known : ℕ) where
   -- a step that is read is sound, and its bytes stood there
-  pub step-read : (before : List Step) (bs : List ℕ) (s : Step) (left : List ℕ) → aStep known before bs ≡ read s left → SoundStep known before s × (bs ≡ stepBytes s ++ left)
+  pub step-read : (before : List Step) (bs : List ℕ) (s : Step) (left : List ℕ) → aStep known before bs ≡ read s left
+      → SoundStep known before s × (bs ≡ stepBytes s ++ left)
   unfolding aStep isNearRoot stepBytes
   step-read before bs s left h =
       let p = byte-read _ bs h in
@@ -66,7 +67,8 @@ module _ (known : ℕ) where
       ((first .0, later .0), ap suc (later .1), stood)
 
   -- sound steps are read from their bytes
-  pub read-steps : (before ss : List Step) (left : List ℕ) → SoundSteps known before ss → steps known (length ss) before (flatMap stepBytes ss ++ left) ≡ read ss left
+  pub read-steps : (before ss : List Step) (left : List ℕ) → SoundSteps known before ss
+      → steps known (length ss) before (flatMap stepBytes ss ++ left) ≡ read ss left
   unfolding steps flatMap give
   read-steps before [] left h = refl
   read-steps before (s ∷ ss) left h =

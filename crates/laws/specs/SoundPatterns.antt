@@ -68,7 +68,8 @@ module _ (known : ℕ) where
       go false kids later = later
 
   -- at most one of their root steps is near, and none if one stood before them
-  sound-nears : (k : ℕ) (before ss : List Step) → SoundSteps known before ss → (nears (childrenIn 0 k ss) ≤ 1) × (some isNearRoot before ≡ true → nears (childrenIn 0 k ss) ≡ 0)
+  sound-nears : (k : ℕ) (before ss : List Step) → SoundSteps known before ss
+      → (nears (childrenIn 0 k ss) ≤ 1) × (some isNearRoot before ≡ true → nears (childrenIn 0 k ss) ≡ 0)
   unfolding childrenIn nears
   sound-nears k before [] h = (omega arith, λ z. refl)
   sound-nears k before (s ∷ ss) h = go (isNearRoot s) refl (sound-nears (suc k) (before ++ (s ∷ [])) ss (h .1))

@@ -19,7 +19,8 @@ place-under (next u) p = place-under u (after p)
 place-under (down u) p = place-under u (below p)
 
 -- and for a near step, where it is a place for one among them, and they are child steps
-pub place-among : {whole part : Forest} {child : Bool} {y : Axis} {m : ℕ} {k : Forest} → child ≡ true → Under whole child part → Place near part y m k → Place near whole y m k
+pub place-among : {whole part : Forest} {child : Bool} {y : Axis} {m : ℕ} {k : Forest} → child ≡ true → Under whole child part
+    → Place near part y m k → Place near whole y m k
 place-among e itself p = p
 place-among e (next u) p = place-among e u (after p)
 place-among e (down u) p = absurd (false≢true e)

@@ -36,7 +36,8 @@ unfolding some
 some-last before s = some-append isNearRoot before (s ∷ []) ∙ ap (λ (b : Bool). some isNearRoot before || b) (or-false (isNearRoot s))
 
 -- it is enough
-sound-enough : (known : ℕ) (before ss : List Step) → SoundFrom known (suc (length before)) (pathAfter 1 (0 ∷ []) before) (some isNearRoot before) ss → SoundSteps known before ss
+sound-enough : (known : ℕ) (before ss : List Step)
+    → SoundFrom known (suc (length before)) (pathAfter 1 (0 ∷ []) before) (some isNearRoot before) ss → SoundSteps known before ss
 unfolding mayHang
 sound-enough known before [] h = tt
 sound-enough known before (s ∷ ss) h =

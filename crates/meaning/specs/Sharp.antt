@@ -108,10 +108,12 @@ module _ (s : List ℕ) where
 
   -- with a lent output
   module _ (out : List ℕ) where
-    pub merge-sharp : (i j : ℕ) (x y : Merged) (u v : List ℕ) → MergeGives s i j out (mergedGiven x) u → MergeGives s i j out (mergedGiven y) v → (x ≡ y) × (u ≡ v)
+    pub merge-sharp : (i j : ℕ) (x y : Merged) (u v : List ℕ) → MergeGives s i j out (mergedGiven x) u
+        → MergeGives s i j out (mergedGiven y) v → (x ≡ y) × (u ≡ v)
     merge-sharp i j x y u v e f = (merged-tells x y (only-one (e .answer) (f .answer)), only-one (e .output) (f .output))
 
-    pub build-sharp : (limit : ℕ) (x y : Built) (u v : List ℕ) → BuildGives s limit out (builtGiven x) u → BuildGives s limit out (builtGiven y) v → (x ≡ y) × (u ≡ v)
+    pub build-sharp : (limit : ℕ) (x y : Built) (u v : List ℕ) → BuildGives s limit out (builtGiven x) u
+        → BuildGives s limit out (builtGiven y) v → (x ≡ y) × (u ≡ v)
     build-sharp limit x y u v e f = (built-tells x y (only-one (e .answer) (f .answer)), only-one (e .output) (f .output))
 
 -- of a delivery set

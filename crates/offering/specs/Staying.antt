@@ -82,7 +82,8 @@ pub record LeftToAsk (p : Pattern) (c : Forest) (k : ℕ) (r : Pattern) : Type 0
   pub whole : beside (patternOf r) (stayingForest c rest) ≡ stayingForest c (patternOf p)
 
 -- a branch goes or stays
-goes : (c : Forest) (p : Pattern) (k : ℕ) (later : Forest) → covers (branchAt p k) c ≡ true → stayingForest c (beside (branchAt p k) later) ≡ stayingForest c later
+goes : (c : Forest) (p : Pattern) (k : ℕ) (later : Forest) → covers (branchAt p k) c ≡ true
+    → stayingForest c (beside (branchAt p k) later) ≡ stayingForest c later
 unfolding stayingForest beside branchAt pick
 goes c p k later e = rw e
 

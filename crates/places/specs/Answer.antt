@@ -99,7 +99,8 @@ module _ {A : Type 0} where
 
 module _ {A B : Type 0} where
   -- read on from the place that was reached
-  pub then-answer : (s : List ℕ) (a : A) (b : B) (c : Cur) (next : A → Reader B) (f : ℕ → Cur) → ((p : ℕ) → c ≡ At p → next a (drop p s) ≡ answer s b (f p)) → go-on (answer s a c) next ≡ answer s b (andThen c f)
+  pub then-answer : (s : List ℕ) (a : A) (b : B) (c : Cur) (next : A → Reader B) (f : ℕ → Cur)
+      → ((p : ℕ) → c ≡ At p → next a (drop p s) ≡ answer s b (f p)) → go-on (answer s a c) next ≡ answer s b (andThen c f)
   unfolding answer go-on andThen
   then-answer s a b (At p) next f h = h p refl
   then-answer s a b (No n) next f h = refl
@@ -145,11 +146,13 @@ module _ {B : Type 0} (s : List ℕ) where
   then-unless n false l next = refl
 
   -- n bytes, where there are so many
-  pub then-bytes : (n at : ℕ) (next : List ℕ → Reader B) → _>>=_ (bytes n) next (drop at s) ≡ pick (leb n (length s - at)) (next (take n (drop at s)) (drop (at + n) s)) (refused 1)
+  pub then-bytes : (n at : ℕ) (next : List ℕ → Reader B)
+      → _>>=_ (bytes n) next (drop at s) ≡ pick (leb n (length s - at)) (next (take n (drop at s)) (drop (at + n) s)) (refused 1)
   unfolding _>>=_ go-on pick
   then-bytes n at next = ap (λ (r : Reading (List ℕ)). go-on r next) (bytes-at n (drop at s)) ∙ rw (length-drop at s, drop-drop n at s) (go (leb n (length s - at)))
     where
-      go : (b : Bool) → go-on (pick b (read (take n (drop at s)) (drop (at + n) s)) (refused 1)) next ≡ pick b (next (take n (drop at s)) (drop (at + n) s)) (refused 1)
+      go : (b : Bool) → go-on (pick b (read (take n (drop at s)) (drop (at + n) s)) (refused 1)) next
+          ≡ pick b (next (take n (drop at s)) (drop (at + n) s)) (refused 1)
       go true = refl
       go false = refl
 

@@ -46,7 +46,9 @@ module _ (s : List ℕ) where
       further : at + 1 + n ≡ at + suc n
       further = omega arith
 
-      go : (a b : Bool) → pick a (go-on (pick b (read (numberIn s (at + 1) n) (drop (at + 1 + n) s)) (refused 1)) (λ high. give (getD s at 0 + 256 * high))) (refused 1)
+      go : (a b : Bool) → pick a
+          (go-on (pick b (read (numberIn s (at + 1) n) (drop (at + 1 + n) s)) (refused 1)) (λ high. give (getD s at 0 + 256 * high)))
+          (refused 1)
           ≡ pick (a && b) (read (getD s at 0 + 256 * numberIn s (at + 1) n) (drop (at + 1 + n) s)) (refused 1)
       go true true = refl
       go true false = refl
@@ -54,11 +56,13 @@ module _ (s : List ℕ) where
 
 module _ {B : Type 0} (s : List ℕ) where
   -- read on after a number
-  pub then-number : (n at : ℕ) (next : ℕ → Reader B) → _>>=_ (number n) next (drop at s) ≡ pick (leb n (length s - at)) (next (numberIn s at n) (drop (at + n) s)) (refused 1)
+  pub then-number : (n at : ℕ) (next : ℕ → Reader B)
+      → _>>=_ (number n) next (drop at s) ≡ pick (leb n (length s - at)) (next (numberIn s at n) (drop (at + n) s)) (refused 1)
   unfolding _>>=_ go-on pick
   then-number n at next = ap (λ (r : Reading ℕ). go-on r next) (number-at s n at) ∙ go (leb n (length s - at))
     where
-      go : (b : Bool) → go-on (pick b (read (numberIn s at n) (drop (at + n) s)) (refused 1)) next ≡ pick b (next (numberIn s at n) (drop (at + n) s)) (refused 1)
+      go : (b : Bool) → go-on (pick b (read (numberIn s at n) (drop (at + n) s)) (refused 1)) next
+          ≡ pick b (next (numberIn s at n) (drop (at + n) s)) (refused 1)
       go true = refl
       go false = refl
 

@@ -24,7 +24,8 @@ module _ {B : Type 0} where
   judged-answer s a (No n) refuse next = refl
 
   -- a section is answered by its place
-  pub section-judged : {A : Type 0} {s : List ℕ} {r : Reader A} {x : ℕ} (k : Section s r x) (refuse : ℕ → B) (next : A → B) → judged (r (drop x s)) refuse next ≡ reached (k .place) refuse (next (k .value))
+  pub section-judged : {A : Type 0} {s : List ℕ} {r : Reader A} {x : ℕ} (k : Section s r x) (refuse : ℕ → B) (next : A → B)
+      → judged (r (drop x s)) refuse next ≡ reached (k .place) refuse (next (k .value))
   section-judged {s = s} k refuse next = rw (k .reads) (judged-answer s (k .value) (k .place) refuse next)
 
   -- one judged first, then the other

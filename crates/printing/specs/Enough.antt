@@ -29,7 +29,8 @@ unfolding sheetAt forestsAt
 sheet-subscriptions s = length-standing (forestAt s) (afterPattern s) (patternCountAt s + 1) (getD s (patternCountAt s) 0)
 
 -- no entry has more steps than may be
-small-entries : (es : List Entry) → ((e : Entry) → List·Memᴰ e es → WellFormed (e .pattern)) → (x : Sections.Entry) → List·Memᴰ x (map entryOf es) → size (x .pattern) ≤ mostSteps
+small-entries : (es : List Entry) → ((e : Entry) → List·Memᴰ e es → WellFormed (e .pattern)) → (x : Sections.Entry)
+    → List·Memᴰ x (map entryOf es) → size (x .pattern) ≤ mostSteps
 unfolding entryOf
 small-entries [] sound x m = elim m [ ]
 small-entries (e ∷ es) sound x m =
@@ -48,7 +49,8 @@ small-table t rounds sound h =
 pub table-printed : (sh : Sheet) (s : List ℕ) (subscriptions : ℕ) (t : Table) (rounds : ℕ) (out after : List ℕ) (next : ℕ)
     → WellFormedTable t → rounds < 100000 → sh .labels ≡ labelsIn s → Short (sh .labels) → length (sh .patterns) ≡ subscriptions → subscriptions ≤ mostPatterns
     → 80000 ≤ length out → written after next ≡ put (written out 0) (textOf (labelsIn s) subscriptions (builtTable t rounds))
-    → (next ≡ length (tableText sh (builtTable t rounds))) × (after ≡ tableText sh (builtTable t rounds) ++ drop (length (tableText sh (builtTable t rounds))) out)
+    → (next ≡ length (tableText sh (builtTable t rounds)))
+    × (after ≡ tableText sh (builtTable t rounds) ++ drop (length (tableText sh (builtTable t rounds))) out)
 table-printed sh s subscriptions t rounds out after next sound few e short f l room h =
     let text = tableText sh (builtTable t rounds) in
     let enough = table-room sh (builtTable t rounds) short (omega arith) (small-table t rounds sound few) in

@@ -32,7 +32,8 @@ sheet-labels s = refl
 
 -- the text of a table that was built from one entry for each subscription is that of the build
 pub text-built : (s : List ℕ) (count limit rounds : ℕ) (t first : Table) → count ≡ length (sheetAt s .patterns)
-    → tableOf first ≡ entriesFrom 0 (sheetAt s .patterns) → tableOf t ≡ buildFrom limit (tableOf first) .entries → rounds ≡ buildFrom limit (tableOf first) .rounds
+    → tableOf first ≡ entriesFrom 0 (sheetAt s .patterns) → tableOf t ≡ buildFrom limit (tableOf first) .entries
+    → rounds ≡ buildFrom limit (tableOf first) .rounds
     → textOf (labelsIn s) count (builtTable t rounds) ≡ tableText (sheetAt s) (build limit (sheetAt s .patterns))
 unfolding builtTable
 text-built s count limit rounds t first counted one entries turns =
@@ -49,7 +50,8 @@ printed-short (a ∷ []) h = refl
 printed-short (a ∷ b ∷ rest) h = absurd (omega arith)
 
 -- a value that is only put together changes no refusal
-judged-made : {A B C : Type 0} (r : Reading A) (f : A → B) (refuse : ℕ → C) (next : B → C) → judged (go-on r (λ a. give (f a))) refuse next ≡ judged r refuse (λ a. next (f a))
+judged-made : {A B C : Type 0} (r : Reading A) (f : A → B) (refuse : ℕ → C) (next : B → C)
+    → judged (go-on r (λ a. give (f a))) refuse next ≡ judged r refuse (λ a. next (f a))
 unfolding judged go-on give
 judged-made (read a left) f refuse next = refl
 judged-made (refused n) f refuse next = refl
@@ -89,8 +91,11 @@ put-no s w out c m h e n p =
     let at : sheetPlace (drop 2 s) ≡ No m = ap sheetPlace (sym (part-is s)) ∙ sym e ∙ n in
     p ∙ ap (put out) (sym (printed-sheet s h ∙ rw at))
 
-pub put-yes : (s : List ℕ) (w out : Written) (c : Cur) (x limit : ℕ) → 2 ≤ length s → c ≡ sheetPlace (take (length s - 2) (drop 2 s)) → c ≡ At x → limit ≡ pairAt s 0
-    → w ≡ put out (tableText (sheetAt (take (length s - 2) (drop 2 s))) (build limit (sheetAt (take (length s - 2) (drop 2 s)) .patterns))) → w ≡ put out (printed s)
+pub put-yes : (s : List ℕ) (w out : Written) (c : Cur) (x limit : ℕ) → 2 ≤ length s → c ≡ sheetPlace (take (length s - 2) (drop 2 s))
+    → c ≡ At x → limit ≡ pairAt s 0
+    → w
+    ≡ put out (tableText (sheetAt (take (length s - 2) (drop 2 s))) (build limit (sheetAt (take (length s - 2) (drop 2 s)) .patterns)))
+    → w ≡ put out (printed s)
 unfolding reached
 put-yes s w out c x limit h e n l p =
     let at : sheetPlace (drop 2 s) ≡ At x = ap sheetPlace (sym (part-is s)) ∙ sym e ∙ n in

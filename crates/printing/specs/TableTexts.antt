@@ -35,7 +35,8 @@ totalsOf subscriptions entries steps rounds =
     (decimal subscriptions ++ ascii " subscriptions, ")
     ++ ((decimal entries ++ ascii " entries, ") ++ ((decimal steps ++ ascii " steps, ") ++ (decimal rounds ++ ascii " rounds\n")))
 
-totals-of : (subscriptions : ℕ) (t : Building.Table) → totalsText subscriptions t ≡ totalsOf subscriptions (length (t .entries)) (stepsTogether (t .entries)) (t .rounds)
+totals-of : (subscriptions : ℕ) (t : Building.Table)
+    → totalsText subscriptions t ≡ totalsOf subscriptions (length (t .entries)) (stepsTogether (t .entries)) (t .rounds)
 unfolding totalsText totalsOf
 totals-of subscriptions t = simp append-assoc
 

@@ -26,7 +26,8 @@ module _ (s : List ℕ) (p q n i c : ℕ) (whole : Bool) where
   climb-tops h d z w = sym (rw (split n i h, climbs, ne-eqb c q d, pick, eq-eqb c 0 z)) ∙ w
 
   -- neither: climb on from the parent
-  pub climb-goes-on : (y : ℕ) → i < n → (c ≡ q → ⊥) → (c ≡ 0 → ⊥) → y ≡ getD s (p + 3 * (c - 1)) 0 → climbs s p q (n - i) c ≡ whole → climbs s p q (n - (i + 1)) y ≡ whole
+  pub climb-goes-on : (y : ℕ) → i < n → (c ≡ q → ⊥) → (c ≡ 0 → ⊥) → y ≡ getD s (p + 3 * (c - 1)) 0 → climbs s p q (n - i) c ≡ whole
+      → climbs s p q (n - (i + 1)) y ≡ whole
   unfolding climbs pick
   climb-goes-on y h d z e w = rw e (sym (rw (split n i h, climbs, ne-eqb c q d, pick, ne-eqb c 0 z)) ∙ w)
 

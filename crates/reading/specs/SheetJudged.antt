@@ -13,7 +13,8 @@ use Rattle.places.specs.Section.{section-read}
 use Rattle.places.specs.Reached.{reached, section-judged}
 
 -- a sheet is answered by its place
-pub sheet-judged : {B : Type 0} (s : List ℕ) (refuse : ℕ → B) (next : Sheet → B) → judged (sheet s) refuse next ≡ reached (sheetPlace s) refuse (next (sheetAt s))
+pub sheet-judged : {B : Type 0} (s : List ℕ) (refuse : ℕ → B) (next : Sheet → B)
+    → judged (sheet s) refuse next ≡ reached (sheetPlace s) refuse (next (sheetAt s))
 unfolding sheetSection
 sheet-judged s refuse next = section-judged (sheetSection s) refuse next
 

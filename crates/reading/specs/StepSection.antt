@@ -80,7 +80,8 @@ module _ (s : List ℕ) (p : ℕ) where
       go false = refl
   climbs-path q (suc n) (above {c = c} {path = path} z w) h = rw (climbs, ne-eqb c 0 z, eqb-turned c q) (go (eqb q c) (climbs-path q n w (omega arith)))
     where
-      go : (b : Bool) → climbs s p q n (getD s (p + 3 * (c - 1)) 0) ≡ some (eqb q) path → pick b true (pick false false (climbs s p q n (getD s (p + 3 * (c - 1)) 0))) ≡ (b || some (eqb q) path)
+      go : (b : Bool) → climbs s p q n (getD s (p + 3 * (c - 1)) 0) ≡ some (eqb q) path
+          → pick b true (pick false false (climbs s p q n (getD s (p + 3 * (c - 1)) 0))) ≡ (b || some (eqb q) path)
       go true e = refl
       go false e = e
 

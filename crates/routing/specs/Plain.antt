@@ -31,7 +31,8 @@ module _ (ns : List Node) (ps : List Forest) where
   none-delivered = refl
 
   -- one more is marked where it matches
-  pub next-delivered : (i set : ℕ) (said : Bool) → i < length ps → said ≡ satisfies ns (getD ps i none) → set ≡ firstDelivered i → marked set i said ≡ firstDelivered (i + 1)
+  pub next-delivered : (i set : ℕ) (said : Bool) → i < length ps → said ≡ satisfies ns (getD ps i none) → set ≡ firstDelivered i
+      → marked set i said ≡ firstDelivered (i + 1)
   unfolding firstDelivered
   next-delivered i set said h e f =
       let first = map (satisfies ns) (take i ps) in
@@ -50,7 +51,8 @@ unfoldable pub numberedAnswer : List Node → Sheet → ℕ → Asked
 numberedAnswer ns sh i = pick (isSubscription sh i) (asked.Said (satisfies ns (subscription sh i))) (asked.Refused notThere)
 
 -- there is such a subscription
-pub answer-there : (ns : List Node) (sh : Sheet) (i : ℕ) (said : Bool) → i < length (sh .patterns) → said ≡ satisfies ns (getD (sh .patterns) i none) → asked.Said said ≡ numberedAnswer ns sh i
+pub answer-there : (ns : List Node) (sh : Sheet) (i : ℕ) (said : Bool) → i < length (sh .patterns)
+    → said ≡ satisfies ns (getD (sh .patterns) i none) → asked.Said said ≡ numberedAnswer ns sh i
 unfolding numberedAnswer isSubscription subscription
 answer-there ns sh i said h e = pick-true _ _ _ (ltb i (length (sh .patterns))) (lt-ltb i (length (sh .patterns)) h) (ap asked.Said e)
 

@@ -83,7 +83,8 @@ module _ (s t d : List ℕ) where
   tableSays sh es dc = tabled.Delivered (tableRoute (dc .nodes) es (sh .patterns)) (tried (dc .nodes) es (sh .patterns))
 
   -- by the places that were reached, the document last
-  table-by-place : tableAnswer s t d ≡ reached (fairPlace s t) tabled.Refused (reached (documentPlace s d) tabled.Refused (tableSays (sheetAt s) (tableAt t) (documentAt d)))
+  table-by-place : tableAnswer s t d ≡ reached (fairPlace s t) tabled.Refused
+      (reached (documentPlace s d) tabled.Refused (tableSays (sheetAt s) (tableAt t) (documentAt d)))
   unfolding tableAnswer
   table-by-place =
       fair-judged s t tabled.Refused (λ sh es. judged (document sh d) tabled.Refused (tableSays sh es))

@@ -40,12 +40,14 @@ module _ (ns : List Node) (ps : List Forest) where
   unfolding askMember memberTried marks pick
   member-set members i j r = go (isMember members i)
     where
-      go : (b : Bool) → isMember ((pick b (record { set = marked (r .set) i (own i); tried = r .tried + 1 }) r) .set) j ≡ (isMember (r .set) j || (b && (own i && eqb i j)))
+      go : (b : Bool) → isMember ((pick b (record { set = marked (r .set) i (own i); tried = r .tried + 1 }) r) .set) j
+          ≡ (isMember (r .set) j || (b && (own i && eqb i j)))
       go true = member-marked (r .set) i (own i) j
       go false = sym (or-false (isMember (r .set) j))
 
   -- after the k members from i on
-  members-set : (members k i j : ℕ) (r : Route) → isMember ((foldN (askMember ns ps members) k i r) .set) j ≡ (isMember (r .set) j || some (marks members j) (numbersFrom i k))
+  members-set : (members k i j : ℕ) (r : Route)
+      → isMember ((foldN (askMember ns ps members) k i r) .set) j ≡ (isMember (r .set) j || some (marks members j) (numbersFrom i k))
   unfolding foldN numbersFrom some
   members-set members zero i j r = sym (or-false (isMember (r .set) j))
   members-set members (suc k) i j r =
@@ -55,7 +57,8 @@ module _ (ns : List Node) (ps : List Forest) where
       ∙ or-assoc (isMember (r .set) j) (marks members j i) (some (marks members j) (numbersFrom (i + 1) k)))
 
   -- after all members
-  all-members-set : (members j : ℕ) (r : Route) → j < length ps → isMember ((askMembers ns ps members r) .set) j ≡ (isMember (r .set) j || (isMember members j && own j))
+  all-members-set : (members j : ℕ) (r : Route) → j < length ps
+      → isMember ((askMembers ns ps members r) .set) j ≡ (isMember (r .set) j || (isMember members j && own j))
   unfolding askMembers marks
   all-members-set members j r h =
       members-set members (length ps) 0 j r
@@ -88,12 +91,14 @@ module _ (ns : List Node) (ps : List Forest) where
       none-so a false s = sym (or-false a)
 
       go : (b : Bool) → isMember ((askMembers ns ps (e .members) (oneMore r)) .set) j ≡ (isMember (r .set) j || (isMember (e .members) j && own j))
-          → isMember ((pick b (askMembers ns ps (e .members) (oneMore r)) (oneMore r)) .set) j ≡ (isMember (r .set) j || ((isMember (e .members) j && b) && own j))
+          → isMember ((pick b (askMembers ns ps (e .members) (oneMore r)) (oneMore r)) .set) j
+          ≡ (isMember (r .set) j || ((isMember (e .members) j && b) && own j))
       go true k = k ∙ tidy (isMember (r .set) j) (isMember (e .members) j) (own j)
       go false k = none-so (isMember (r .set) j) (isMember (e .members) j) (own j)
 
   -- after entries
-  along-set : (es : List Entry) (j : ℕ) (r : Route) → j < length ps → isMember ((foldAlong (askEntry ns ps) es r) .set) j ≡ (isMember (r .set) j || (some (matchesFor ns j) es && own j))
+  along-set : (es : List Entry) (j : ℕ) (r : Route) → j < length ps
+      → isMember ((foldAlong (askEntry ns ps) es r) .set) j ≡ (isMember (r .set) j || (some (matchesFor ns j) es && own j))
   unfolding foldAlong some
   along-set [] j r h = sym (or-false (isMember (r .set) j))
   along-set (e ∷ es) j r h =
@@ -150,7 +155,8 @@ module _ (ns : List Node) (es : List Entry) where
   delivered-long i (q ∷ qs) = ap suc (delivered-long (suc i) qs)
 
   -- the answer of subscription i + j
-  delivered-at : (i j : ℕ) (qs : List Forest) → j < length qs → getD (deliveredFrom ns es i qs) j false ≡ (some (matchesFor ns (i + j)) es && satisfies ns (getD qs j none))
+  delivered-at : (i j : ℕ) (qs : List Forest) → j < length qs
+      → getD (deliveredFrom ns es i qs) j false ≡ (some (matchesFor ns (i + j)) es && satisfies ns (getD qs j none))
   unfolding deliveredFrom
   delivered-at i j [] h = absurd (omega arith)
   delivered-at i zero (q ∷ qs) h = rw (add-zero i)

@@ -32,7 +32,8 @@ unfoldable pub memberTried : ℕ → ℕ → Bool → Route → Route
 memberTried members i said r = pick (isMember members i) (record { set = marked (r .set) i said; tried = r .tried + 1 }) r
 
 -- as a member is asked
-pub member-asked : (members i : ℕ) (said : Bool) (r : Route) (b yes′ : Bool) (set n : ℕ) → b ≡ isMember members i → b ≡ true → yes′ ≡ said → set ≡ marked (r .set) i yes′ → n ≡ r .tried + 1
+pub member-asked : (members i : ℕ) (said : Bool) (r : Route) (b yes′ : Bool) (set n : ℕ) → b ≡ isMember members i → b ≡ true
+    → yes′ ≡ said → set ≡ marked (r .set) i yes′ → n ≡ r .tried + 1
     → _≡_ {A = Route} (record { set = set; tried = n }) (memberTried members i said r)
 unfolding memberTried
 member-asked members i said r b yes′ set n e h f g k = pick-true _ _ _ (isMember members i) (sym e ∙ h) (rw (g, f, k))
@@ -92,7 +93,8 @@ module _ (ns : List Node) (ps : List Forest) where
   unfolding askEntry triedFor oneMore pick
   entry-tried e r = go (satisfies ns (e .pattern))
     where
-      go : (b : Bool) → (pick b (askMembers (e .members) (oneMore r)) (oneMore r)) .tried ≡ r .tried + 1 + pick b (length (membersOf (length ps) (e .members))) 0
+      go : (b : Bool) → (pick b (askMembers (e .members) (oneMore r)) (oneMore r)) .tried
+          ≡ r .tried + 1 + pick b (length (membersOf (length ps) (e .members))) 0
       go true = all-members-tried (e .members) (oneMore r)
       go false = omega arith
 
@@ -121,7 +123,8 @@ module _ (ns : List Node) (ps : List Forest) where
   -- ---- the loops along members and along entries
 
   -- one member more
-  pub members-go-on : (members i : ℕ) (r q whole : Route) (said : Bool) → i < length ps → said ≡ satisfies ns (getD ps i none) → q ≡ memberTried members i said r
+  pub members-go-on : (members i : ℕ) (r q whole : Route) (said : Bool) → i < length ps → said ≡ satisfies ns (getD ps i none)
+      → q ≡ memberTried members i said r
       → foldN (askMember members) (length ps - i) i r ≡ whole → foldN (askMember members) (length ps - (i + 1)) (i + 1) q ≡ whole
   unfolding askMember
   members-go-on members i r q whole said h e f k = rw (f, e) (foldN-goes-on (askMember members) (length ps) i r whole h k)

@@ -51,7 +51,8 @@ unfoldable pub stepAfter : List Step → Step → List Step
 stepAfter ss s = ss ++ (s ∷ [])
 
 -- a pattern with one step more
-pub one-more : (p : Pattern) (s : Step) (t : Pattern) → p .count < 16 → length (p .steps) ≡ 16 → t .count ≡ p .count + 1 → t .steps ≡ set (p .steps) (p .count) s
+pub one-more : (p : Pattern) (s : Step) (t : Pattern) → p .count < 16 → length (p .steps) ≡ 16 → t .count ≡ p .count + 1
+    → t .steps ≡ set (p .steps) (p .count) s
     → Holds t (stepAfter (stepsIn p) s)
 unfolding stepsIn stepAfter
 one-more p s t room full c e =

@@ -24,7 +24,8 @@ unfolding stepsTogether total
 sum-starts t = record { reached = omega arith; few = omega arith; sum = refl }
 
 -- with one entry more
-pub sum-goes-on : (t : Table) (i n : ℕ) → WellFormedTable t → i < t .count → Summed t i n → Summed t (i + 1) (n + getD (t .entries) i noEntryValue .pattern .count)
+pub sum-goes-on : (t : Table) (i n : ℕ) → WellFormedTable t → i < t .count → Summed t i n
+    → Summed t (i + 1) (n + getD (t .entries) i noEntryValue .pattern .count)
 unfolding stepsTogether entryAt
 sum-goes-on t i n s h z = record { reached = omega arith; few = omega (arith, entry-sound t s i noEntryValue h .few, z .few); sum = sum }
   where

@@ -18,7 +18,8 @@ use Rattle.subscriptions.specs.TakenRead.{subscriptions-counted, subscri
 pub record SubscriptionsStand (s : List ℕ) (v : Subscriptions) : Type 0 where
   pub few : v .count ≤ 64
   pub counted : v .count ≡ length (sheetAt s .patterns)
-  pub taken : (i : ℕ) → i < v .count → (patternOf (patternAt s (getD (v .places) i 0)) ≡ getD (sheetAt s .patterns) i none) × WellFormed (patternAt s (getD (v .places) i 0))
+  pub taken : (i : ℕ) → i < v .count → (patternOf (patternAt s (getD (v .places) i 0)) ≡ getD (sheetAt s .patterns) i none)
+      × WellFormed (patternAt s (getD (v .places) i 0))
 
 -- so it is of a sheet that was judged
 pub subscriptions-stand : (s : List ℕ) (v : Subscriptions) → SheetStands s → v ≡ subscriptionsOf s → SubscriptionsStand s v
@@ -31,5 +32,6 @@ subscriptions-stand s v stands e =
     }
 
 -- the pattern by value at the i-th place is that of subscription i, well formed
-pub pattern-here : (s : List ℕ) (v : Subscriptions) → SubscriptionsStand s v → (i : ℕ) (p : Pattern) → i < v .count → p ≡ patternAt s (getD (v .places) i 0) → (patternOf p ≡ getD (sheetAt s .patterns) i none) × WellFormed p
+pub pattern-here : (s : List ℕ) (v : Subscriptions) → SubscriptionsStand s v → (i : ℕ) (p : Pattern) → i < v .count
+    → p ≡ patternAt s (getD (v .places) i 0) → (patternOf p ≡ getD (sheetAt s .patterns) i none) × WellFormed p
 pattern-here s v stand i p l h = rw h (stand .taken i l)

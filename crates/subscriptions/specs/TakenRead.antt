@@ -85,7 +85,8 @@ module _ (s : List ℕ) (sh : Sheet) (left : List ℕ) (h : sheet s ≡ read sh 
 
   -- each is taken from its place as it was read, well formed
   pub subscription-taken : (i : ℕ) → i < length (sh .patterns)
-      → (patternOf (patternAt s (getD ((subscriptionsOf s) .places) i 0)) ≡ getD (sh .patterns) i none) × WellFormed (patternAt s (getD ((subscriptionsOf s) .places) i 0))
+      → (patternOf (patternAt s (getD ((subscriptionsOf s) .places) i 0)) ≡ getD (sh .patterns) i none)
+      × WellFormed (patternAt s (getD ((subscriptionsOf s) .places) i 0))
   unfolding subscriptionsOf patternPlaces itself patternSection sheetAt forestsAt
   subscription-taken i l =
       let start = patternCountAt s + 1 in

@@ -53,7 +53,8 @@ module _ (s t : List ℕ) (y : ℕ) (h : tablePlace s t ≡ At y) where
 
   -- each is taken from its place as it was read, its pattern well formed
   entry-taken : (i : ℕ) (d : Entry) → i < getD t 0 0
-      → (entryOf (entryTaken t (getD ((tableEntries t) .places) i 0)) ≡ getD (tableAt t) i d) × WellFormed ((entryTaken t (getD ((tableEntries t) .places) i 0)) .pattern)
+      → (entryOf (entryTaken t (getD ((tableEntries t) .places) i 0)) ≡ getD (tableAt t) i d)
+      × WellFormed ((entryTaken t (getD ((tableEntries t) .places) i 0)) .pattern)
   unfolding tableEntries entryPlaces itself tableAt entrySection entryTaken entryIn entryOf
   entry-taken i d b =
       let n = getD t 0 0 in

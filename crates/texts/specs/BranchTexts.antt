@@ -33,11 +33,13 @@ several-branches (step a l kids none) = refl
 several-branches (step a l kids (step b m more later)) = sym (lt-ltb 1 (suc (suc (branches later))) (omega arith))
 
 module _ (p : Pattern) (sound : WellFormed p) (v k n : ℕ) (whole : ℕ) where
-  pub branch-counted : k < p .count → stepIn p k .parent ≡ v → n + branches (childrenFrom (stepsIn p) v k) ≡ whole → n + 1 + branches (childrenFrom (stepsIn p) v (k + 1)) ≡ whole
+  pub branch-counted : k < p .count → stepIn p k .parent ≡ v → n + branches (childrenFrom (stepsIn p) v k) ≡ whole
+      → n + 1 + branches (childrenFrom (stepsIn p) v (k + 1)) ≡ whole
   unfolding branches
   branch-counted h e w = omega (arith, ap branches (child-here p sound v k h e))
 
-  pub branch-not : k < p .count → (stepIn p k .parent ≡ v → ⊥) → n + branches (childrenFrom (stepsIn p) v k) ≡ whole → n + branches (childrenFrom (stepsIn p) v (k + 1)) ≡ whole
+  pub branch-not : k < p .count → (stepIn p k .parent ≡ v → ⊥) → n + branches (childrenFrom (stepsIn p) v k) ≡ whole
+      → n + branches (childrenFrom (stepsIn p) v (k + 1)) ≡ whole
   branch-not h e w = omega (arith, ap branches (child-not p sound v k h e))
 
 pub all-counted : (p : Pattern) → WellFormed p → (v k n : ℕ) → p .count ≤ k
@@ -92,7 +94,8 @@ unfolding patternText patternOf forest stepsIn childrenIn ascii
 dot-text ls p e = rw e
 
 -- otherwise the branches below its root
-pub pattern-text : (ls : List (List ℕ)) (p : Pattern) → WellFormed p → (p .count ≡ 0 → ⊥) → patternText ls (patternOf p) ≡ belowText ls (childrenOf (stepsIn p) 0)
+pub pattern-text : (ls : List (List ℕ)) (p : Pattern) → WellFormed p → (p .count ≡ 0 → ⊥)
+    → patternText ls (patternOf p) ≡ belowText ls (childrenOf (stepsIn p) 0)
 unfolding belowText patternText stepsOf stepsFrom
 pattern-text ls p sound h = go (patternOf p) refl ∙ ap (belowText ls) (sym (root-children p))
   where

@@ -39,7 +39,8 @@ put-below-Inv-loop out₀ at s v p many next₀ k₀ out next k =
 abbrev put-below-μ-loop : put-below-lts.MeasureT-loop
 put-below-μ-loop out₀ at s v p many next₀ k₀ out next k = p .count - k
 
-abbrev PutBelow : (put-below-lts.Claims → In 2 put-below-kinds.ps → Out 2 put-below-kinds.ps put-below-kinds.r → put-below-lts.InvT-loop → put-below-lts.MeasureT-loop → Type 0) → Type 0
+abbrev PutBelow : (put-below-lts.Claims → In 2 put-below-kinds.ps → Out 2 put-below-kinds.ps put-below-kinds.r → put-below-lts.InvT-loop
+    → put-below-lts.MeasureT-loop → Type 0) → Type 0
 PutBelow need = (t : ℕ) → need (
   several-below-reads.Asked,
   several-below-reads.Learnt,
