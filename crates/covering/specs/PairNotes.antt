@@ -14,14 +14,19 @@ use Rattle.base.specs.Choice.{pick}
 use Rattle.shapes.specs.Shapes.{stepsIn, WellFormed}
 use Rattle.shapes.specs.declared.Pattern.{Pattern}
 use Rattle.covering.specs.Questions.{childrenLie}
+use Rattle.meaning.specs.Numbers.{mostSteps}
+
+-- how many pairs of steps there are
+abbrev pub pairCount : ℕ
+pairCount = mostSteps * mostSteps
 
 -- the numbers of two steps
 abbrev pub PairOfSteps : ℕ → ℕ → Type 0
-PairOfSteps v w = (1 ≤ v) × (v ≤ 16) × (1 ≤ w) × (w ≤ 16)
+PairOfSteps v w = (1 ≤ v) × (v ≤ mostSteps) × (1 ≤ w) × (w ≤ mostSteps)
 
 -- the cell of a pair of steps
 unfoldable pub cellOf : ℕ → ℕ → ℕ
-cellOf v w = (v - 1) * 16 + (w - 1)
+cellOf v w = (v - 1) * mostSteps + (w - 1)
 
 -- an answer as it is noted
 unfoldable pub noteOf : Bool → ℕ
@@ -38,25 +43,25 @@ knownAt may v w notes = pick may (getD notes (cellOf v w) 0) 2
 pub record Noted (a b : Pattern) (notes : List ℕ) : Type 0 where
   pub first : WellFormed a
   pub second : WellFormed b
-  pub full : length notes ≡ 256
-  pub lie : (v w : ℕ) → 1 ≤ v → v ≤ 16 → 1 ≤ w → w ≤ 16 → getD notes (cellOf v w) 0 ≡ 1 → childrenLie (stepsIn a) v (stepsIn b) w ≡ true
-  pub don't : (v w : ℕ) → 1 ≤ v → v ≤ 16 → 1 ≤ w → w ≤ 16 → getD notes (cellOf v w) 0 ≡ 2 → childrenLie (stepsIn a) v (stepsIn b) w ≡ false
+  pub full : length notes ≡ pairCount
+  pub lie : (v w : ℕ) → 1 ≤ v → v ≤ mostSteps → 1 ≤ w → w ≤ mostSteps → getD notes (cellOf v w) 0 ≡ 1 → childrenLie (stepsIn a) v (stepsIn b) w ≡ true
+  pub don't : (v w : ℕ) → 1 ≤ v → v ≤ mostSteps → 1 ≤ w → w ≤ mostSteps → getD notes (cellOf v w) 0 ≡ 2 → childrenLie (stepsIn a) v (stepsIn b) w ≡ false
 
 -- before anything is asked
-pub nothing-noted : (a b : Pattern) → WellFormed a → WellFormed b → Noted a b (replicate 256 0)
+pub nothing-noted : (a b : Pattern) → WellFormed a → WellFormed b → Noted a b (replicate pairCount 0)
 unfolding cellOf
 nothing-noted a b p q = record {
   first = p;
   second = q;
-  full = length-replicate {A = ℕ} 256 0;
-  lie = λ v w h i j k e. absurd (omega (arith, e, getD-replicate {A = ℕ} 256 (cellOf v w) 0 0 (omega arith)));
-  don't = λ v w h i j k e. absurd (omega (arith, e, getD-replicate {A = ℕ} 256 (cellOf v w) 0 0 (omega arith)));
+  full = length-replicate {A = ℕ} pairCount 0;
+  lie = λ v w h i j k e. absurd (omega (arith, e, getD-replicate {A = ℕ} pairCount (cellOf v w) 0 0 (omega arith)));
+  don't = λ v w h i j k e. absurd (omega (arith, e, getD-replicate {A = ℕ} pairCount (cellOf v w) 0 0 (omega arith)));
 }
 
 -- what is so of every cell stays so where one is filled with what it is so of
-pub cell-filled : {A : Type 0} (P : ℕ → ℕ → A → Type 0) (cells : List A) (v w : ℕ) → PairOfSteps v w → (n d : A) → length cells ≡ 256 → P v w n
-    → ((x y : ℕ) → 1 ≤ x → x ≤ 16 → 1 ≤ y → y ≤ 16 → P x y (getD cells (cellOf x y) d))
-    → (x y : ℕ) → 1 ≤ x → x ≤ 16 → 1 ≤ y → y ≤ 16 → P x y (getD (set cells (cellOf v w) n) (cellOf x y) d)
+pub cell-filled : {A : Type 0} (P : ℕ → ℕ → A → Type 0) (cells : List A) (v w : ℕ) → PairOfSteps v w → (n d : A) → length cells ≡ pairCount → P v w n
+    → ((x y : ℕ) → 1 ≤ x → x ≤ mostSteps → 1 ≤ y → y ≤ mostSteps → P x y (getD cells (cellOf x y) d))
+    → (x y : ℕ) → 1 ≤ x → x ≤ mostSteps → 1 ≤ y → y ≤ mostSteps → P x y (getD (set cells (cellOf v w) n) (cellOf x y) d)
 unfolding cellOf
 cell-filled P cells v w pair n d full own other x y hx lx hy ly = go (true-or-false (eqb (cellOf x y) (cellOf v w)))
   where

@@ -45,7 +45,7 @@ fn may_lie_below(s: Step, w: usize, t: Step) -> bool
 // The cell of the note about a pair of steps.
 fn cell(v: usize, w: usize) -> usize
     requires { ⌜ PairOfSteps v w ⌝ }
-    ensures { λ r. ⌜ (r ≡ cellOf v w) × (r < 256) ⌝ }
+    ensures { λ r. ⌜ (r ≡ cellOf v w) × (r < pairCount) ⌝ }
 {
     (v - 1) * MOST_STEPS + (w - 1)
 }
@@ -61,7 +61,7 @@ fn known_at(may: bool, v: usize, w: usize, notes: &[u8; PAIRS]) -> u8
 
 // Notes whether the children of v lie below w, and hands the answer on.
 fn note(v: usize, w: usize, lie: bool, notes: &mut [u8; PAIRS]) -> bool
-    requires { ⌜ (length (now notes) ≡ 256) × PairOfSteps v w ⌝ }
+    requires { ⌜ (length (now notes) ≡ pairCount) × PairOfSteps v w ⌝ }
     ensures { λ r. ⌜ (r ≡ lie) × (now (notes .exit) ≡ set (now (notes .entry)) (cellOf v w) (noteOf lie)) ⌝ }
 {
     notes[cell(v, w)] = if lie { 1 } else { 2 };

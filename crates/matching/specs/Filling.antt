@@ -23,8 +23,9 @@ use Rattle.matching.specs.NodeNotes.{blank, noted, StepNumber, blank-who
 use Rattle.matching.specs.Giving.{kidsHold, givesAt}
 use Rattle.matching.specs.Going.{Gave}
 use Rattle.matching.specs.Filled.{stepHolds, givenBy, Filled, done-below}
+use Rattle.meaning.specs.Numbers.{mostSteps}
 
-module _ (ns : List Node) (ss : List Step) (rising : Rising (parentsOf ns)) (few : length ss ≤ 16) where
+module _ (ns : List Node) (ss : List Step) (rising : Rising (parentsOf ns)) (few : length ss ≤ mostSteps) where
   -- every child step of q holds, by what is noted of each, exactly if the forest of these steps holds
   kids-are : (h : ℕ → Bool) (t : ℕ) → ((k : ℕ) → StepNumber k → k ≤ length ss → h k ≡ stepHolds ns ss t k)
       → (q j : ℕ) (rest : List Step) → drop j ss ≡ rest → kidsHold h q (suc j) rest ≡ holdBelow ns (childrenIn q (suc j) rest) t

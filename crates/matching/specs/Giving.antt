@@ -1,5 +1,5 @@
 -- What a node gives to its parent: for which steps it is to be noted that they hold below the parent.
-use Prim.Native.Nat.{ℕ, suc, _≤_, _<_}
+use Prim.Native.Nat.{ℕ, suc, _≤_, _<_, _+_}
 use mathlib.Core.Path.{_≡_}
 use mathlib.Core.Bool.{Bool, true, not, _&&_, _||_}
 use mathlib.Core.List.{List, [], _∷_}
@@ -11,6 +11,7 @@ use Rattle.meaning.specs.Satisfying.{anyOrSame}
 use Rattle.meaning.specs.Covering.{stepAt}
 use Rattle.meaning.specs.declared.Step.{Step}
 use Rattle.matching.specs.NodeNotes.{Whole, noted, StepNumber, NotedToo}
+use Rattle.meaning.specs.Numbers.{mostSteps, mostNodes}
 
 -- a node fits a step if the label is any or the same, and every child step holds below that node
 unfoldable pub fits : Step → ℕ → Bool → Bool
@@ -43,11 +44,11 @@ noLack lacks q = eqb (getD lacks q 0) 0
 -- the notes and the lacks are whole, and there are cells for step s, whose number is k, for node u and for its parent
 pub record MayWeigh (cells lacks : List ℕ) (s : Step) (k u up : ℕ) : Type 0 where
   pub full : Whole cells
-  pub lacksFull : length lacks ≡ 17
+  pub lacksFull : length lacks ≡ mostSteps + 1
   pub number : StepNumber k
-  pub parent : s .parent ≤ 16
-  pub node : u ≤ 1024
-  pub above : up ≤ 1024
+  pub parent : s .parent ≤ mostSteps
+  pub node : u ≤ mostNodes
+  pub above : up ≤ mostNodes
 
 -- what the node gives of step k is noted below its parent; if step k does not hold below the node, its parent step lacks it
 pub record Weighed (cells lacks cells' lacks' : List ℕ) (s : Step) (k u up label : ℕ) : Type 0 where

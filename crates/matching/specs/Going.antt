@@ -1,5 +1,5 @@
 -- A node's turn: its steps go from the last to the first, each asked of what is noted below the node.
-use Prim.Native.Nat.{ℕ, suc, _≤_, _<_}
+use Prim.Native.Nat.{ℕ, suc, _≤_, _<_, _+_}
 use mathlib.Core.Path.{_≡_, refl, sym, _∙_, ap}
 use mathlib.Core.Logic.{⊎-elim}
 use mathlib.Core.Bool.{Bool, true, false, _&&_, _||_, or-false}
@@ -15,6 +15,7 @@ use Rattle.meaning.specs.Covering.{stepAt}
 use Rattle.meaning.specs.declared.Step.{Step}
 use Rattle.matching.specs.NodeNotes.{Whole, noted, StepNumber, NotedToo}
 use Rattle.matching.specs.Giving.{kidsHold, kids-from, givesAt, noLack, Weighed}
+use Rattle.meaning.specs.Numbers.{mostSteps}
 
 -- after the turn of node u, whose parent is up: what was noted before, and below the parent what the node gives
 pub record Gave (before after : List ℕ) (ss : List Step) (u up label : ℕ) : Type 0 where
@@ -29,12 +30,12 @@ noteAfter before ss u up label t k = noted before t k || (eqb up t && givesAt (n
 pub record Going (before cells lacks : List ℕ) (ss : List Step) (u up label k : ℕ) : Type 0 where
   pub low : k ≤ length ss
   pub full : Whole cells
-  pub lacksFull : length lacks ≡ 17
-  pub lacking : (q : ℕ) → q ≤ 16 → noLack lacks q ≡ kidsHold (noted before u) q (suc k) (drop k ss)
+  pub lacksFull : length lacks ≡ mostSteps + 1
+  pub lacking : (q : ℕ) → q ≤ mostSteps → noLack lacks q ≡ kidsHold (noted before u) q (suc k) (drop k ss)
   pub passed : (t k' : ℕ) → StepNumber k' → k < k' → k' ≤ length ss → noted cells t k' ≡ noteAfter before ss u up label t k'
   pub ahead : (t k' : ℕ) → StepNumber k' → k' ≤ k → noted cells t k' ≡ noted before t k'
 
-module _ (before : List ℕ) (ss : List Step) (u up label : ℕ) (few : length ss ≤ 16) where
+module _ (before : List ℕ) (ss : List Step) (u up label : ℕ) (few : length ss ≤ mostSteps) where
   -- what another step's turn notes leaves a step's notes as they are
   same : {cells cells' : List ℕ} {k : ℕ} {b : Bool} → NotedToo cells cells' up k b → (t k' : ℕ) → StepNumber k' → (k ≡ k' → ⊥)
       → noted cells' t k' ≡ noted cells t k'
@@ -45,7 +46,7 @@ module _ (before : List ℕ) (ss : List Step) (u up label : ℕ) (few : length s
       go false c e = or-false (noted cells t k')
 
   -- a step that does not hold is one that its parent step lacks
-  lacks-one : (lacks rest : List ℕ) (q r : ℕ) (h : Bool) → length lacks ≡ 17 → q ≤ 16 → rest ≡ pick h lacks (set lacks r 1)
+  lacks-one : (lacks rest : List ℕ) (q r : ℕ) (h : Bool) → length lacks ≡ mostSteps + 1 → q ≤ mostSteps → rest ≡ pick h lacks (set lacks r 1)
       → noLack rest q ≡ pick (eqb r q) (h && noLack lacks q) (noLack lacks q)
   unfolding noLack pick
   lacks-one lacks rest q r h l m e = ap (λ x. noLack x q) e ∙ go h (eqb r q) refl
@@ -66,15 +67,15 @@ module _ (before : List ℕ) (ss : List Step) (u up label : ℕ) (few : length s
     below : noted cells u (suc j) ≡ noted before u (suc j)
     below = g .ahead u (suc j) number (omega arith)
 
-    length-lacks : length lacks' ≡ 17
+    length-lacks : length lacks' ≡ mostSteps + 1
     unfolding pick
     length-lacks = ap length (w .lacking) ∙ go (noted cells u (suc j))
       where
-        go : (b : Bool) → length (pick b lacks (set lacks (stepAt ss (suc j) .parent) 1)) ≡ 17
+        go : (b : Bool) → length (pick b lacks (set lacks (stepAt ss (suc j) .parent) 1)) ≡ mostSteps + 1
         go true = g .lacksFull
         go false = length-set lacks (stepAt ss (suc j) .parent) 1 ∙ g .lacksFull
 
-    step-lacking : (q : ℕ) → q ≤ 16 → noLack lacks' q ≡ kidsHold (noted before u) q (suc j) (drop j ss)
+    step-lacking : (q : ℕ) → q ≤ mostSteps → noLack lacks' q ≡ kidsHold (noted before u) q (suc j) (drop j ss)
     step-lacking q m =
         lacks-one lacks lacks' q (stepAt ss (suc j) .parent) (noted cells u (suc j)) (g .lacksFull) m (w .lacking)
         ∙ (rw (g .lacking q m, below) (sym (kids-from ss (noted before u) q j (g .low))))
@@ -107,13 +108,13 @@ module _ (before : List ℕ) (ss : List Step) (u up label : ℕ) (few : length s
   goes-on {cells} {lacks} {cells'} {lacks'} j e f g w = next cells lacks cells' lacks' j (rw e at g) (rw (f, e) at w)
 
   -- before the first step nothing is done
-  pub goes-start : {k : ℕ} → k ≡ length ss → Whole before → Going before before (replicate 17 0) ss u up label k
+  pub goes-start : {k : ℕ} → k ≡ length ss → Whole before → Going before before (replicate (mostSteps + 1) 0) ss u up label k
   unfolding noLack kidsHold
   goes-start e full = record {
     low = omega arith;
     full = full;
     lacksFull = refl;
-    lacking = λ q m. ap (λ v. eqb v 0) (getD-replicate 17 q 0 0 (omega arith)) ∙ rw (e, drop-length);
+    lacking = λ q m. ap (λ v. eqb v 0) (getD-replicate (mostSteps + 1) q 0 0 (omega arith)) ∙ rw (e, drop-length);
     passed = λ t k' m h l. absurd (omega arith);
     ahead = λ t k' m h. refl;
   }

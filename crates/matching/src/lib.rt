@@ -65,7 +65,7 @@ fn gives(s: Step, label: u8, kids_hold: bool, below: bool) -> bool
 
 // A step that lacks a child step that holds: noted where that is so.
 fn lack(lacks: &mut [u8; MOST_STEPS + 1], q: usize, holds: bool)
-    requires { ⌜ (length (now lacks) ≡ 17) × (q ≤ mostSteps) ⌝ }
+    requires { ⌜ (length (now lacks) ≡ mostSteps + 1) × (q ≤ mostSteps) ⌝ }
     ensures { λ r. ⌜ now (lacks .exit) ≡ pick holds (now (lacks .entry)) (set (now (lacks .entry)) q 1) ⌝ }
 {
     if !holds {

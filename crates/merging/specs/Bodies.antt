@@ -13,16 +13,17 @@ use Rattle.shapes.specs.Shapes.{patternOf, stepsIn}
 use Rattle.shapes.specs.declared.Pattern.{Pattern}
 use Rattle.laws.specs.Children.{childrenOf}
 use Rattle.covering.specs.Questions.{childrenLie, liesAt}
-use Rattle.covering.specs.PairNotes.{PairOfSteps, Noted, cellOf, cell-filled}
+use Rattle.covering.specs.PairNotes.{PairOfSteps, Noted, cellOf, cell-filled, pairCount}
 use Rattle.offering.specs.declared.Marked.{Marked}
 use Rattle.offering.specs.Branches.{joined-branches, buildingAt}
 use Rattle.offering.specs.Offers.{buildingOf, Built}
-use Rattle.packing.specs.Packing.{Packed}
+use Rattle.packing.specs.Packing.{Packed, bodyLength}
+use Rattle.meaning.specs.Numbers.{mostSteps}
 
 -- the body of step v of p at step w of q
 unfoldable pub bodyFor : List Step → List Step → ℕ → ℕ → Body
 bodyFor a b v w =
-    bodyOf (stepAt a v .label) (childrenOf a v) (stepAt b w .label) (childrenOf b w) (through 16 (childrenOf a v) true 1 (childrenOf b w) nothing)
+    bodyOf (stepAt a v .label) (childrenOf a v) (stepAt b w .label) (childrenOf b w) (through mostSteps (childrenOf a v) true 1 (childrenOf b w) nothing)
 
 -- the body of a step as it is
 unfoldable pub bodyAt : List Step → ℕ → Body
@@ -42,7 +43,7 @@ module _ (a b : List Step) (v w : ℕ) where
 
     -- otherwise it is built
     pub makes : other ≡ false → (label : ℕ) → label ≡ commonLabel (stepAt a v .label) (stepAt b w .label)
-        → (built : Marked) → Built 1 built (through 16 (childrenOf a v) true 1 (childrenOf b w) nothing)
+        → (built : Marked) → Built 1 built (through mostSteps (childrenOf a v) true 1 (childrenOf b w) nothing)
         → _≡_ {A = Body} (record { label = label; kids = patternOf (built .pattern); clipped = built .clipped }) (bodyFor a b v w)
     unfolding bodyFor bodyOf pick liesAt childrenLie buildingOf buildingAt
     makes not-second label label-is built h = rw (sym said ∙ not-first, sym said₂ ∙ not-second, label-is, sym (h .is), joined-branches)
@@ -55,8 +56,8 @@ Slot body bs = (getD bs 0 0 ≡ 0 → ⊥) → Packed bs body
 
 -- every slot holds, if anything, the body of its pair
 pub record Remembered (p q : Pattern) (memo : List (List ℕ)) : Type 0 where
-  pub full : length memo ≡ 256
-  pub right : (v w : ℕ) → 1 ≤ v → v ≤ 16 → 1 ≤ w → w ≤ 16 → Slot (bodyFor (stepsIn p) (stepsIn q) v w) (getD memo (cellOf v w) [])
+  pub full : length memo ≡ pairCount
+  pub right : (v w : ℕ) → 1 ≤ v → v ≤ mostSteps → 1 ≤ w → w ≤ mostSteps → Slot (bodyFor (stepsIn p) (stepsIn q) v w) (getD memo (cellOf v w) [])
 
 -- what is known of two patterns while they are merged: the bodies, and what of each can be laid where on the other
 pub record Known (p q : Pattern) (memo : List (List ℕ)) (there back : List ℕ) : Type 0 where
@@ -65,12 +66,12 @@ pub record Known (p q : Pattern) (memo : List (List ℕ)) (there back : List ℕ
   pub from : Noted q p back
 
 -- the empty table
-pub nothing-known : (p q : Pattern) → Remembered p q (replicate 256 (replicate 50 0))
+pub nothing-known : (p q : Pattern) → Remembered p q (replicate pairCount (replicate bodyLength 0))
 unfolding Slot cellOf
 nothing-known p q = record {
-  full = length-replicate {A = List ℕ} 256 (replicate 50 0);
+  full = length-replicate {A = List ℕ} pairCount (replicate bodyLength 0);
   right = λ v w h i j k filled.
-      let empty = getD-replicate {A = List ℕ} 256 (cellOf v w) (replicate 50 0) [] (omega arith) in
+      let empty = getD-replicate {A = List ℕ} pairCount (cellOf v w) (replicate bodyLength 0) [] (omega arith) in
       absurd (filled (ap (λ (bs : List ℕ). getD bs 0 0) empty));
 }
 

@@ -13,6 +13,7 @@ use Rattle.laws.specs.MergeSize.{merge-first, merge-second}
 use Rattle.offering.specs.declared.Marked.{Marked}
 use Rattle.offering.specs.Branches.{joined-branches, buildingAt}
 use Rattle.offering.specs.Offers.{buildingOf, Built}
+use Rattle.meaning.specs.Numbers.{mostSteps}
 
 -- a value that is a merge
 pub record IsMerge (r : Marked) (m : Merge) : Type 0 where
@@ -25,7 +26,7 @@ module _ (p q : Pattern) (first second : Bool) (said : first ≡ covers (pattern
   pub merges-first : WellFormed p → first ≡ true → IsMerge (record { pattern = p; clipped = false }) (merge (patternOf p) (patternOf q))
   unfolding merge
   merges-first sound t =
-      let e = merge-first 16 (patternOf p) (patternOf q) (sym said ∙ t) in
+      let e = merge-first mostSteps (patternOf p) (patternOf q) (sym said ∙ t) in
       record { pattern = rw e; mark = rw e; sound = sound }
 
   module _ (un : first ≡ false) (said₂ : second ≡ covers (patternOf q) (patternOf p)) where
@@ -33,15 +34,15 @@ module _ (p q : Pattern) (first second : Bool) (said : first ≡ covers (pattern
     pub merges-second : WellFormed q → second ≡ true → IsMerge (record { pattern = q; clipped = false }) (merge (patternOf p) (patternOf q))
     unfolding merge
     merges-second sound t =
-        let e = merge-second 16 (patternOf p) (patternOf q) (sym said ∙ un) (sym said₂ ∙ t) in
+        let e = merge-second mostSteps (patternOf p) (patternOf q) (sym said ∙ un) (sym said₂ ∙ t) in
         record { pattern = rw e; mark = rw e; sound = sound }
 
     -- neither covers the other, and it is built
     pub merges-built : second ≡ false → (r : Marked)
-        → Built 0 r (through 16 (childrenOf (stepsIn p) 0) true 0 (childrenOf (stepsIn q) 0) nothing) → IsMerge r (merge (patternOf p) (patternOf q))
+        → Built 0 r (through mostSteps (childrenOf (stepsIn p) 0) true 0 (childrenOf (stepsIn q) 0) nothing) → IsMerge r (merge (patternOf p) (patternOf q))
     unfolding merge mergeWithin pick buildingOf buildingAt
     merges-built u r h =
-        let is : through 16 (patternOf p) true 0 (patternOf q) nothing ≡ buildingOf r = rw (root-children p, root-children q) at (sym (h .is)) in
+        let is : through mostSteps (patternOf p) true 0 (patternOf q) nothing ≡ buildingOf r = rw (root-children p, root-children q) at (sym (h .is)) in
         record {
           pattern = rw (sym said ∙ un, sym said₂ ∙ u, is, joined-branches);
           mark = rw (sym said ∙ un, sym said₂ ∙ u, is);

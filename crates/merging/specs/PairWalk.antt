@@ -18,6 +18,7 @@ use Rattle.laws.specs.Bridge.{axis-written}
 use Rattle.laws.specs.Outside.{writtenStep}
 use Rattle.laws.specs.Children.{childrenOf}
 use Rattle.covering.specs.OverBlock.{overForest, overFrom, over-starts, over-step, over-ends, over-done}
+use Rattle.meaning.specs.Numbers.{mostSteps}
 
 -- what a step with its child steps makes of what is being built; the first says that it is a near child
 abbrev pub Meeting : Type 0
@@ -59,15 +60,15 @@ over-across pair w p k (step a m kids later) next b l h =
 
 -- what a step v' makes: it meets every step w' below w
 unfoldable pub meetAll : ℕ → Forest → Meeting
-meetAll own w nearV l vs b = across (meetAt 16 own nearV l vs (λ ws. through 16 vs true 1 ws nothing)) true w b
+meetAll own w nearV l vs b = across (meetAt mostSteps own nearV l vs (λ ws. through mostSteps vs true 1 ws nothing)) true w b
 
 -- the walk over all pairs is the walk of those steps
-pub through-across : (own : ℕ) (w f : Forest) (child : Bool) (b : Building) → through 16 f child own w b ≡ across (meetAll own w) child f b
+pub through-across : (own : ℕ) (w f : Forest) (child : Bool) (b : Building) → through mostSteps f child own w b ≡ across (meetAll own w) child f b
 unfolding through across meetAll
 through-across own w none child b = refl
 through-across own w (step x l vs later) child b =
     let c = meetAll own w (child && isNear x) l vs b in
-    through-across own w later child (through 16 vs false own w c)
+    through-across own w later child (through mostSteps vs false own w c)
     ∙ ap (across (meetAll own w) child later) (through-across own w vs false c)
 
 -- ---- one law for each way through a loop

@@ -19,10 +19,11 @@ use Rattle.offering.specs.Offers.{buildingOf, Built, bodyIn, IsBody}
 use Rattle.offering.specs.Candidates.{body-in}
 use Rattle.merging.specs.PairWalk.{Meeting, nearChild, meetAll, through-across, restWalks, stepMakes, walk-starts, walk-step, walk-ends, walk-done}
 use Rattle.merging.specs.Bodies.{bodyFor}
+use Rattle.meaning.specs.Numbers.{mostSteps}
 
 -- what step v, near child or not, makes with a step w'
 unfoldable pub pairOf : ℕ → Bool → List Step → ℕ → Meeting
-pairOf own direct a v = meetAt 16 own direct (stepAt a v .label) (childrenOf a v) (λ ws. through 16 (childrenOf a v) true 1 ws nothing)
+pairOf own direct a v = meetAt mostSteps own direct (stepAt a v .label) (childrenOf a v) (λ ws. through mostSteps (childrenOf a v) true 1 ws nothing)
 
 -- what it makes with all below w
 unfoldable pub acrossOf : ℕ → Bool → List Step → ℕ → Forest → Building → Building
@@ -33,7 +34,7 @@ pub record Walking (p : Pattern) (pair : Meeting) (v k own : ℕ) (b : Marked) (
   pub from : v ≤ k
   pub upto : k ≤ p .count
   pub sound : WellFormed (b .pattern)
-  pub few : own + b .pattern .count ≤ 16
+  pub few : own + b .pattern .count ≤ mostSteps
   pub rest : restWalks pair (stepsIn p) v k (buildingOf b) ≡ whole
 
 -- ---- one law for each way through such a loop
@@ -58,7 +59,7 @@ module _ {p : Pattern} {pair : Meeting} {v k own : ℕ} {b : Marked} {whole : Bu
 
 -- ---- step v with the steps below w
 module _ (q : Pattern) (own : ℕ) (direct : Bool) (a : List Step) (v w : ℕ) where
-  pub across-starts : WellFormed q → (b : Marked) → WellFormed (b .pattern) → own + b .pattern .count ≤ 16 → w ≤ q .count
+  pub across-starts : WellFormed q → (b : Marked) → WellFormed (b .pattern) → own + b .pattern .count ≤ mostSteps → w ≤ q .count
       → Walking q (pairOf own direct a v) w w own b (acrossOf own direct a v (childrenOf (stepsIn q) w) (buildingOf b))
   unfolding pairOf acrossOf meetAll
   across-starts sound b built few h = record {
@@ -71,7 +72,7 @@ module _ (q : Pattern) (own : ℕ) (direct : Bool) (a : List Step) (v w : ℕ) w
 
   -- the body of the pair, offered, is what the step at place u makes
   pub across-step : (u : ℕ) (b body r : Marked) (nearW both : Bool) → IsBody body (bodyFor a (stepsIn q) v (u + 1))
-      → nearW ≡ nearChild w (stepIn q u) → both ≡ (direct && nearW) → Built own r (meet 16 own both (bodyIn body) (buildingOf b))
+      → nearW ≡ nearChild w (stepIn q u) → both ≡ (direct && nearW) → Built own r (meet mostSteps own both (bodyIn body) (buildingOf b))
       → Built own r (stepMakes (pairOf own direct a v) q w u (buildingOf b))
   unfolding pairOf meetAt bodyFor
   across-step u b body r nearW both is n e built = rw (e, n, body-in body _ is) at built
@@ -79,7 +80,7 @@ module _ (q : Pattern) (own : ℕ) (direct : Bool) (a : List Step) (v w : ℕ) w
 -- ---- the steps below v, each with all below w
 module _ (p : Pattern) (own : ℕ) (w : Forest) (v : ℕ) where
   pub through-starts : WellFormed p → (r : Pattern) → (patternOf r ≡ none) × WellFormed r → own ≤ 1 → v ≤ p .count
-      → Walking p (meetAll own w) v v own (record { pattern = r; clipped = false }) (through 16 (childrenOf (stepsIn p) v) true own w nothing)
+      → Walking p (meetAll own w) v v own (record { pattern = r; clipped = false }) (through mostSteps (childrenOf (stepsIn p) v) true own w nothing)
   unfolding buildingOf buildingAt branchesOf nothing
   through-starts sound r h l k =
       let empty : buildingOf (record { pattern = r; clipped = false }) ≡ nothing = ap (λ (f : Forest). buildingAt f false) (h .0) in

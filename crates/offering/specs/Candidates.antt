@@ -18,6 +18,7 @@ use Rattle.laws.specs.Offering.{candidateOf}
 use Rattle.offering.specs.declared.Marked.{Marked}
 use Rattle.offering.specs.Branches.{firstBranch, buildingAt}
 use Rattle.offering.specs.Offers.{buildingOf, Built, IsBranch, bodyIn, IsBody}
+use Rattle.meaning.specs.Numbers.{mostSteps}
 
 -- the body that a value is
 pub body-in : (m : Marked) (body : Body) → IsBody m body → bodyIn m ≡ body
@@ -69,8 +70,8 @@ first-alone x = refl
 -- what is built after the candidate is offered
 pub met : (own : ℕ) (b m r : Marked) (bothNear marked : Bool) (c : Pattern) → StandsFor c (alone (candidateOf bothNear (bodyIn m)))
     → marked ≡ (b .clipped || m .clipped)
-    → Built own r (offer 16 own (firstBranch (patternOf c)) (buildingOf (record { pattern = b .pattern; clipped = marked })))
-    → Built own r (meet 16 own bothNear (bodyIn m) (buildingOf b))
+    → Built own r (offer mostSteps own (firstBranch (patternOf c)) (buildingOf (record { pattern = b .pattern; clipped = marked })))
+    → Built own r (meet mostSteps own bothNear (bodyIn m) (buildingOf b))
 unfolding meet buildingOf buildingAt bodyIn
 met own b m r bothNear marked c s e h =
     let first : firstBranch (patternOf c) ≡ candidateOf bothNear (bodyIn m) = ap firstBranch (s .pattern) ∙ first-alone (candidateOf bothNear (bodyIn m)) in

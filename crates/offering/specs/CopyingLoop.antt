@@ -13,6 +13,7 @@ use Rattle.shapes.specs.Holding.{Holds, holding, stepAfter, one-more}
 use Rattle.laws.specs.Children.{childrenOf}
 use Rattle.covering.specs.OverBlock.{overFrom, over-starts, over-step, over-ends, over-done}
 use Rattle.offering.specs.Copying.{movedStep, copyStep, moved-block}
+use Rattle.meaning.specs.Numbers.{mostSteps}
 
 -- what is copied, and what is to be copied of the steps from place k on
 unfoldable pub withRest : ℕ → ℕ → ℕ → List Step → List Step → ℕ → List Step
@@ -23,13 +24,13 @@ pub record Copying (p : Pattern) (v n top k : ℕ) (t : Pattern) (whole : List S
   pub sound : WellFormed p
   pub from : v ≤ k
   pub upto : k ≤ p .count
-  pub full : length (t .steps) ≡ 16
+  pub full : length (t .steps) ≡ mostSteps
   pub number : t .count ≡ n + (k - v)
-  pub room : n + (p .count - v) ≤ 16
+  pub room : n + (p .count - v) ≤ mostSteps
   pub rest : withRest v n top (stepsIn t) (stepsIn p) k ≡ whole
 
 -- at the start nothing is copied
-pub copy-starts : (p r : Pattern) (v top : ℕ) → WellFormed p → length (r .steps) ≡ 16 → v ≤ p .count → r .count + (p .count - v) ≤ 16
+pub copy-starts : (p r : Pattern) (v top : ℕ) → WellFormed p → length (r .steps) ≡ mostSteps → v ≤ p .count → r .count + (p .count - v) ≤ mostSteps
     → Copying p v (r .count) top v r (stepsIn r ++ stepsFrom top (suc (r .count)) (childrenOf (stepsIn p) v))
 unfolding withRest
 copy-starts p r v top sound full h room = record {

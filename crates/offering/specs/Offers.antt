@@ -17,6 +17,7 @@ use Rattle.shapes.specs.Holding.{StandsFor}
 use Rattle.offering.specs.declared.Marked.{Marked}
 use Rattle.offering.specs.Branches.{branchesOf, branches-size, branches-beside, count-beside}
 use Rattle.offering.specs.Branches.{skipped, stayingForest, stay-kept, firstBranch, buildingAt}
+use Rattle.meaning.specs.Numbers.{mostSteps}
 
 -- what is being built: the kept candidates joined, and the mark
 unfoldable pub buildingOf : Marked → Building
@@ -25,7 +26,7 @@ buildingOf m = buildingAt (patternOf (m .pattern)) (m .clipped)
 -- a value that is so, within the limit
 pub record Built (own : ℕ) (m : Marked) (b : Building) : Type 0 where
   pub sound : WellFormed (m .pattern)
-  pub few : own + m .pattern .count ≤ 16
+  pub few : own + m .pattern .count ≤ mostSteps
   pub is : buildingOf m ≡ b
 
 -- the only root branch of a pattern
@@ -34,7 +35,7 @@ IsBranch c = WellFormed c × (patternOf c ≡ alone (firstBranch (patternOf c)))
 
 module _ (own : ℕ) (c : Branch) (f : Forest) (m : Bool) where
   -- it can be laid on a kept one
-  skips : covers (alone c) f ≡ true → buildingAt f m ≡ offer 16 own c (buildingAt f m)
+  skips : covers (alone c) f ≡ true → buildingAt f m ≡ offer mostSteps own c (buildingAt f m)
   unfolding offer buildingAt pick
   skips e = rw (skipped c f, e)
 
@@ -48,25 +49,25 @@ module _ (own : ℕ) (c : Branch) (f : Forest) (m : Bool) where
   stay-size = ap (total branchSize) (sym (stay-kept c f)) ∙ branches-size (stayingForest (alone c) f)
 
   -- there is room after the drops
-  puts : covers (alone c) f ≡ false → own + size (stayingForest (alone c) f) + size (alone c) ≤ 16
-      → buildingAt (beside (stayingForest (alone c) f) (alone c)) m ≡ offer 16 own c (buildingAt f m)
+  puts : covers (alone c) f ≡ false → own + size (stayingForest (alone c) f) + size (alone c) ≤ mostSteps
+      → buildingAt (beside (stayingForest (alone c) f) (alone c)) m ≡ offer mostSteps own c (buildingAt f m)
   unfolding offer buildingAt pick branchesOf alone
   puts e h =
-      let room : own + total branchSize (keep (staysBeside c) (branchesOf f)) + branchSize c ≤ 16 = omega (arith, stay-size, size-alone) in
+      let room : own + total branchSize (keep (staysBeside c) (branchesOf f)) + branchSize c ≤ mostSteps = omega (arith, stay-size, size-alone) in
       let kept : branchesOf (beside (stayingForest (alone c) f) (alone c)) ≡ keep (staysBeside c) (branchesOf f) ++ (c ∷ []) =
       branches-beside (stayingForest (alone c) f) (alone c) ∙ ap (λ (l : List Branch). l ++ (c ∷ [])) (stay-kept c f) in
       rw (skipped c f, e, le-leb _ _ room, kept)
 
   -- there is none
-  leaves : covers (alone c) f ≡ false → 16 < own + size (stayingForest (alone c) f) + size (alone c)
-      → buildingAt f true ≡ offer 16 own c (buildingAt f m)
+  leaves : covers (alone c) f ≡ false → mostSteps < own + size (stayingForest (alone c) f) + size (alone c)
+      → buildingAt f true ≡ offer mostSteps own c (buildingAt f m)
   unfolding offer buildingAt pick
   leaves e h =
-      let full : 16 < own + total branchSize (keep (staysBeside c) (branchesOf f)) + branchSize c = omega (arith, stay-size, size-alone) in
+      let full : mostSteps < own + total branchSize (keep (staysBeside c) (branchesOf f)) + branchSize c = omega (arith, stay-size, size-alone) in
       rw (skipped c f, e, lt-leb _ _ full)
 
 -- ---- the same by value
-module _ (own : ℕ) (b : Marked) (c : Pattern) (sound : WellFormed (b .pattern)) (few : own + b .pattern .count ≤ 16) (branch : IsBranch c) (laid : Bool)
+module _ (own : ℕ) (b : Marked) (c : Pattern) (sound : WellFormed (b .pattern)) (few : own + b .pattern .count ≤ mostSteps) (branch : IsBranch c) (laid : Bool)
     (said : laid ≡ covers (patternOf c) (patternOf (b .pattern))) where
   -- what was asked of the candidate
   said-of : covers (alone (firstBranch (patternOf c))) (patternOf (b .pattern)) ≡ laid
@@ -74,7 +75,7 @@ module _ (own : ℕ) (b : Marked) (c : Pattern) (sound : WellFormed (b .pattern)
   said-of = rw (sym (branch .1)) (sym said)
 
   -- it is skipped
-  pub skips-it : laid ≡ true → Built own b (offer 16 own (firstBranch (patternOf c)) (buildingOf b))
+  pub skips-it : laid ≡ true → Built own b (offer mostSteps own (firstBranch (patternOf c)) (buildingOf b))
   unfolding buildingOf
   skips-it t = record { sound = sound; few = few; is = skips own (firstBranch (patternOf c)) (patternOf (b .pattern)) (b .clipped) (said-of ∙ t) }
 
@@ -91,8 +92,8 @@ module _ (own : ℕ) (b : Marked) (c : Pattern) (sound : WellFormed (b .pattern)
         omega arith
 
     -- it is put
-    pub puts-it : laid ≡ false → own + stay .count + c .count ≤ 16 → (t : Pattern) → StandsFor t (beside (patternOf stay) (patternOf c))
-        → Built own (record { pattern = t; clipped = b .clipped }) (offer 16 own (firstBranch (patternOf c)) (buildingOf b))
+    pub puts-it : laid ≡ false → own + stay .count + c .count ≤ mostSteps → (t : Pattern) → StandsFor t (beside (patternOf stay) (patternOf c))
+        → Built own (record { pattern = t; clipped = b .clipped }) (offer mostSteps own (firstBranch (patternOf c)) (buildingOf b))
     unfolding buildingOf IsBranch
     puts-it u room t put =
         let g = alone (firstBranch (patternOf c)) in
@@ -109,8 +110,8 @@ module _ (own : ℕ) (b : Marked) (c : Pattern) (sound : WellFormed (b .pattern)
         }
 
     -- it is left out
-    pub leaves-it : laid ≡ false → 16 < own + stay .count + c .count
-        → Built own (record { pattern = b .pattern; clipped = true }) (offer 16 own (firstBranch (patternOf c)) (buildingOf b))
+    pub leaves-it : laid ≡ false → mostSteps < own + stay .count + c .count
+        → Built own (record { pattern = b .pattern; clipped = true }) (offer mostSteps own (firstBranch (patternOf c)) (buildingOf b))
     unfolding buildingOf
     leaves-it u full =
         let n = sizes in

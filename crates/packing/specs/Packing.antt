@@ -19,6 +19,11 @@ use Rattle.shapes.specs.Steps.{stepIn, steps-from, steps-end}
 use Rattle.shapes.specs.Holding.{Holds, stands, holding, holds-none, stepAfter, one-more}
 use Rattle.offering.specs.declared.Marked.{Marked}
 use Rattle.offering.specs.Offers.{IsBody}
+use Rattle.meaning.specs.Numbers.{mostSteps}
+
+-- the bytes of a body: its step count, its mark and three bytes a step
+abbrev pub bodyLength : ℕ
+bodyLength = 3 * mostSteps + 2
 
 -- the step at place k, counted from 0
 unfoldable pub stepOf : List ℕ → ℕ → Step
@@ -35,7 +40,7 @@ packed bs = packedFrom bs 0 (getD bs 0 0)
 
 -- bytes that are a body
 pub record Packed (bs : List ℕ) (body : Body) : Type 0 where
-  pub few : getD bs 0 0 ≤ 16
+  pub few : getD bs 0 0 ≤ mostSteps
   pub steps : packed bs ≡ stepsOf (step near (body .label) (body .kids) none)
   pub mark : eqb (getD bs 1 0) 1 ≡ body .clipped
 
@@ -50,12 +55,12 @@ pub record Unpacking (bs : List ℕ) (n : ℕ) (p : Pattern) (k : ℕ) : Type 0 
   pub number : p .count ≡ k
   pub upto : k ≤ n
   pub all : n ≡ getD bs 0 0
-  pub few : n ≤ 16
-  pub full : length (p .steps) ≡ 16
+  pub few : n ≤ mostSteps
+  pub full : length (p .steps) ≡ mostSteps
   pub rest : withPacked (stepsIn p) bs k ≡ packed bs
 
 -- at the start nothing is read
-pub unpack-starts : (bs : List ℕ) (p : Pattern) → (patternOf p ≡ none) × WellFormed p → getD bs 0 0 ≤ 16 → Unpacking bs (getD bs 0 0) p 0
+pub unpack-starts : (bs : List ℕ) (p : Pattern) → (patternOf p ≡ none) × WellFormed p → getD bs 0 0 ≤ mostSteps → Unpacking bs (getD bs 0 0) p 0
 unfolding withPacked packed
 unpack-starts bs p empty few =
     let no-step = holds-none p empty in
@@ -100,7 +105,7 @@ unpacked bs body m h p e = record { stands = stands (m .pattern) _ (rw (h .steps
 
 -- the first k steps are written
 pub record WrittenSteps (p : Pattern) (clipped : Bool) (bs : List ℕ) (k : ℕ) : Type 0 where
-  pub full : length bs ≡ 50
+  pub full : length bs ≡ bodyLength
   pub count : getD bs 0 0 ≡ p .count
   pub mark : eqb (getD bs 1 0) 1 ≡ clipped
   pub steps : (j : ℕ) → j < k → stepOf bs j ≡ stepIn p j
@@ -109,9 +114,9 @@ pub record WrittenSteps (p : Pattern) (clipped : Bool) (bs : List ℕ) (k : ℕ)
 unfoldable pub stepSet : List ℕ → ℕ → Step → List ℕ
 stepSet bs k s = set (set (set bs (2 + 3 * k) (s .parent)) (3 + 3 * k) (s .axis)) (4 + 3 * k) (s .label)
 
-module _ (bs : List ℕ) (k : ℕ) (s : Step) (full : length bs ≡ 50) (room : k < 16) where
+module _ (bs : List ℕ) (k : ℕ) (s : Step) (full : length bs ≡ bodyLength) (room : k < mostSteps) where
   -- no byte more or less
-  set-length : length (stepSet bs k s) ≡ 50
+  set-length : length (stepSet bs k s) ≡ bodyLength
   unfolding stepSet
   set-length = simp length-set full
 
@@ -146,10 +151,10 @@ module _ (bs : List ℕ) (k : ℕ) (s : Step) (full : length bs ≡ 50) (room : 
 
 module _ (p : Pattern) (sound : WellFormed p) (clipped : Bool) where
   -- no step is written yet
-  pub written-starts : (bs : List ℕ) (mark : ℕ) → length bs ≡ 50 → eqb mark 1 ≡ clipped → WrittenSteps p clipped (set (set bs 0 (p .count)) 1 mark) 0
+  pub written-starts : (bs : List ℕ) (mark : ℕ) → length bs ≡ bodyLength → eqb mark 1 ≡ clipped → WrittenSteps p clipped (set (set bs 0 (p .count)) 1 mark) 0
   written-starts bs mark full e =
       let b1 = set bs 0 (p .count) in
-      let l1 : length b1 ≡ 50 = length-set bs 0 (p .count) ∙ full in
+      let l1 : length b1 ≡ bodyLength = length-set bs 0 (p .count) ∙ full in
       record {
         full = length-set b1 1 mark ∙ l1;
         count = getD-set-other b1 1 0 mark 0 (λ z. omega arith) ∙ getD-set-same bs 0 (p .count) 0 (omega arith);
@@ -160,7 +165,7 @@ module _ (p : Pattern) (sound : WellFormed p) (clipped : Bool) where
   -- one step more
   pub written-step : (bs : List ℕ) (k : ℕ) → k < p .count → WrittenSteps p clipped bs k → WrittenSteps p clipped (stepSet bs k (stepIn p k)) (k + 1)
   written-step bs k h w =
-      let room : k < 16 = omega (arith, sound .few) in
+      let room : k < mostSteps = omega (arith, sound .few) in
       let before : (i : ℕ) → i < 2 → getD (stepSet bs k (stepIn p k)) i 0 ≡ getD bs i 0 =
       λ i l. set-elsewhere bs k (stepIn p k) (w .full) room i (λ e. omega arith) (λ e. omega arith) (λ e. omega arith) in
       record {

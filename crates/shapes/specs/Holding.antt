@@ -12,13 +12,14 @@ use Rattle.laws.specs.Bridge.{forest-stepsOf}
 use Rattle.shapes.specs.Shapes.{stepsIn, patternOf, WellFormed}
 use Rattle.shapes.specs.Steps.{length-steps}
 use Rattle.shapes.specs.declared.Pattern.{Pattern}
+use Rattle.meaning.specs.Numbers.{mostSteps}
 
 -- a pattern by value that holds these steps
 pub record Holds (p : Pattern) (ss : List Step) : Type 0 where
   pub steps : stepsIn p ≡ ss
   pub number : p .count ≡ length ss
-  pub few : p .count ≤ 16
-  pub full : length (p .steps) ≡ 16
+  pub few : p .count ≤ mostSteps
+  pub full : length (p .steps) ≡ mostSteps
 
 -- a pattern by value that is well formed, and stands for a forest
 pub record StandsFor (p : Pattern) (f : Forest) : Type 0 where
@@ -33,7 +34,7 @@ stands p f h =
     record { pattern = is; sound = record { few = h .few; full = h .full; written = ap stepsOf is ∙ sym (h .steps) } }
 
 -- the steps that a pattern by value holds
-pub holding : (p : Pattern) (ss : List Step) → p .count ≤ 16 → length (p .steps) ≡ 16 → stepsIn p ≡ ss → Holds p ss
+pub holding : (p : Pattern) (ss : List Step) → p .count ≤ mostSteps → length (p .steps) ≡ mostSteps → stepsIn p ≡ ss → Holds p ss
 unfolding stepsIn
 holding p ss few full e = record { steps = e; number = sym (length-take-le (p .count) (p .steps) (omega arith)) ∙ ap length e; few = few; full = full }
 
@@ -51,7 +52,7 @@ unfoldable pub stepAfter : List Step → Step → List Step
 stepAfter ss s = ss ++ (s ∷ [])
 
 -- a pattern with one step more
-pub one-more : (p : Pattern) (s : Step) (t : Pattern) → p .count < 16 → length (p .steps) ≡ 16 → t .count ≡ p .count + 1
+pub one-more : (p : Pattern) (s : Step) (t : Pattern) → p .count < mostSteps → length (p .steps) ≡ mostSteps → t .count ≡ p .count + 1
     → t .steps ≡ set (p .steps) (p .count) s
     → Holds t (stepAfter (stepsIn p) s)
 unfolding stepsIn stepAfter

@@ -25,12 +25,12 @@ patternOf p = forest (stepsIn p)
 -- with a parent above it and an axis 0 or 1
 pub record WellFormed (p : Pattern) : Type 0 where
   pub few : p .count ≤ mostSteps
-  pub full : length (p .steps) ≡ 16
+  pub full : length (p .steps) ≡ mostSteps
   pub written : stepsOf (patternOf p) ≡ stepsIn p
 
 -- the pattern without steps
 unfoldable pub noSteps : Pattern
-noSteps = record { count = 0; steps = replicate 16 (record { parent = 0; axis = 0; label = 0 }) }
+noSteps = record { count = 0; steps = replicate mostSteps (record { parent = 0; axis = 0; label = 0 }) }
 
 -- it stands for no step, and is well formed
 pub no-steps-stand : (p : Pattern) → p ≡ noSteps → (patternOf p ≡ none) × WellFormed p
@@ -49,7 +49,7 @@ tableOf t = map entryOf (entriesIn t)
 
 pub record WellFormedTable (t : Table) : Type 0 where
   pub few : t .count ≤ mostEntries
-  pub full : length (t .entries) ≡ 64
+  pub full : length (t .entries) ≡ mostEntries
   pub patterns : (e : Entry) → List·Memᴰ e (entriesIn t) → WellFormed (e .pattern)
 
 -- ---- nodes as they stand in bytes

@@ -16,6 +16,7 @@ use Rattle.laws.specs.WrittenRising.{written-rises}
 use Rattle.laws.specs.Children.{childrenFrom, childrenOf, children-of-root, child-first, other-first, none-first, parent-before}
 use Rattle.shapes.specs.Shapes.{stepsIn, patternOf, WellFormed}
 use Rattle.shapes.specs.declared.Pattern.{Pattern}
+use Rattle.meaning.specs.Numbers.{mostSteps}
 
 -- the step at place k of a pattern's array, counted from 0
 unfoldable pub stepIn : Pattern → ℕ → Step
@@ -33,7 +34,7 @@ module _ (p : Pattern) (sound : WellFormed p) where
   length-steps = length-take-le (p .count) (p .steps) (omega (arith, sound .few, sound .full))
 
   -- at most 16
-  pub few-steps : length (stepsIn p) ≤ 16
+  pub few-steps : length (stepsIn p) ≤ mostSteps
   few-steps = omega (arith, length-steps, sound .few)
 
   -- as many as the forest has

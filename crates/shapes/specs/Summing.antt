@@ -11,11 +11,12 @@ use Rattle.meaning.specs.Building.{entryAt, entrySteps, stepsTogether}
 use Rattle.shapes.specs.Shapes.{tableOf, WellFormedTable}
 use Rattle.shapes.specs.TableValues.{noEntryValue, length-table, entry-sound, steps-at}
 use Rattle.shapes.specs.declared.Table.{Table}
+use Rattle.meaning.specs.Numbers.{mostSteps}
 
 -- n steps in the first i entries
 pub record Summed (t : Table) (i n : ℕ) : Type 0 where
   pub reached : i ≤ t .count
-  pub few : n ≤ 16 * i
+  pub few : n ≤ mostSteps * i
   pub sum : n ≡ stepsTogether (take i (tableOf t))
 
 -- before the first entry

@@ -42,6 +42,7 @@ use Rattle.offering.proofs.meet.Reads as meet
 use Rattle.shapes.proofs.no_steps.Reads as no-steps
 use Rattle.merging.proofs.+across+body_at+build_at+new_body.{statement}
 use Rattle.merging.proofs.+across+body_at+build_at+new_body.Tie.{close}
+use Rattle.meaning.specs.Numbers.{mostSteps}
 
 abbrev μ-across : Measures 3 across-kinds.ps ℕ
 μ-across κs a = 4 * (a .0 .count - a .1 .1 .0) + 3
@@ -170,7 +171,7 @@ body-at-returns-2 t c =
 abbrev build-at-Inv-loop : build-at-lts.InvT-loop
 build-at-Inv-loop q v w own memo₀ there₀ back₀ p b₀ k₀ memo there back b k =
     Known p q memo there back
-    × Walking p (meetAll own (childrenOf (stepsIn q) w)) v k own b (through 16 (childrenOf (stepsIn p) v) true own (childrenOf (stepsIn q) w) nothing)
+    × Walking p (meetAll own (childrenOf (stepsIn q) w)) v k own b (through mostSteps (childrenOf (stepsIn p) v) true own (childrenOf (stepsIn q) w) nothing)
 
 abbrev build-at-μ-loop : build-at-lts.MeasureT-loop
 build-at-μ-loop q v w own memo₀ there₀ back₀ p b₀ k₀ memo there back b k = p .count - k

@@ -7,7 +7,7 @@ use lib.ListN.{replicate}
 use borrow.Author.Needs.{needs}
 use Rattle.shapes.specs.Shapes.{WellFormed}
 use Rattle.shapes.specs.Steps.{stepIn}
-use Rattle.packing.specs.Packing.{WrittenSteps, stepSet, written-starts, written-step}
+use Rattle.packing.specs.Packing.{WrittenSteps, stepSet, written-starts, written-step, bodyLength}
 use Rattle.packing.proofs.pack.Statement.{statement}
 use Rattle.packing.proofs.pack.Tie as tie
 
@@ -20,7 +20,7 @@ abbrev μ-loop : tie.MeasureT-loop
 loop-holds : tie.Need-loop-holds Inv-loop μ-loop
 loop-holds c =
     let h = c .before .before .pre in
-    (written-starts _ h _ (replicate 50 0) _ refl refl, h, omega arith)
+    (written-starts _ h _ (replicate bodyLength 0) _ refl refl, h, omega arith)
 
 loop-again : tie.Need-loop-again Inv-loop μ-loop
 unfolding stepIn stepSet
