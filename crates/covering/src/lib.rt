@@ -10,7 +10,7 @@ ghost use Rattle.meaning.specs.Satisfying.{anyOrSame};
 ghost use Rattle.meaning.specs.Covering.{mayLie, covers};
 ghost use Rattle.shapes.specs.Shapes.{patternOf, stepsIn, WellFormed};
 ghost use Rattle.covering.specs.Questions.{mayLieBelow, childrenLie, someFits, liesAt};
-ghost use Rattle.covering.specs.PairNotes.{PairOfSteps, cellOf, noteOf, knownAt, Noted};
+ghost use Rattle.covering.specs.PairNotes.{pairCount, PairOfSteps, cellOf, noteOf, knownAt, Noted};
 
 // Pairs of steps, one of each of two patterns.
 pub const PAIRS: usize = MOST_STEPS * MOST_STEPS;

@@ -80,7 +80,8 @@ children-of-steps p k e (step a l kids later) rest h low hp hq =
     passes-over p k (suc k) j kids (stepsFrom p j later ++ rest) refl (omega arith) (λ z. omega arith)
     ∙ children-of-steps p j e later rest (omega arith) (omega arith) hp (λ q a b. hq q (omega arith) b) in
     first-child p k _ _ refl
-    ∙ ap (λ ss. step (axisOf (axisNumber a)) l (childrenIn k (suc k) ss) (childrenIn p (suc k) ss)) (append-assoc (stepsFrom k (suc k) kids) (stepsFrom p j later) rest)
+    ∙ ap (λ ss. step (axisOf (axisNumber a)) l (childrenIn k (suc k) ss) (childrenIn p (suc k) ss))
+    (append-assoc (stepsFrom k (suc k) kids) (stepsFrom p j later) rest)
     ∙ λ i. step (axis-written a i) l (kids-are i) (later-are i)
 
 -- the steps of a forest are that forest

@@ -40,8 +40,10 @@ node-known known k bs left d h =
     let rule = test-read _ _ _ (p .middle) (p .after) in
     let l = byte-read _ (p .middle) (rule .1) in
     let within = test-read _ _ _ (l .others) (l .after) in
-    subst (λ (n : Node). Known known (n .label)) (give-read _ (l .others) (within .1) .0)
-    (leb-true 1 (l .first) (and-first (leb 1 (l .first)) (leb (l .first) known) (within .0)), leb-true (l .first) known (and-second (leb 1 (l .first)) (leb (l .first) known) (within .0)))
+    subst (λ (n : Node). Known known (n .label)) (give-read _ (l .others) (within .1) .0) (
+      leb-true 1 (l .first) (and-first (leb 1 (l .first)) (leb (l .first) known) (within .0)),
+      leb-true (l .first) known (and-second (leb 1 (l .first)) (leb (l .first) known) (within .0)),
+    )
 
 -- every node of the list has a label from 1 to n
 abbrev pub AllKnown : ℕ → List Node → Type 0
@@ -130,9 +132,11 @@ module _ (ls : List (List ℕ)) (apart : Distinct ls) where
     bytes-numbers (step x l kids later) w t (f, more) =
         let u = f .node in
         let own = node-label u (f .there .0) (f .there .1) in
-        let fits = and-both (anyOrSame l (labelIn ns u)) (holdBelow ns kids u) (bytes-number l (labelIn ns u) (w .0) own (f .label)) (bytes-numbers kids (w .1) u (f .children)) in
+        let fits = and-both (anyOrSame l (labelIn ns u)) (holdBelow ns kids u) (bytes-number l (labelIn ns u) (w .0) own (f .label))
+        (bytes-numbers kids (w .1) u (f .children)) in
         and-both _ (holdBelow ns later t)
-        (some-number-of (fitsBelow ns t x l (holdBelow ns kids)) 1 (length ns) u (f .there .0) (omega (arith, f .there .1)) (and-both (reaches x (parentsOf ns) t u) _ (f .within) fits))
+        (some-number-of (fitsBelow ns t x l (holdBelow ns kids)) 1 (length ns) u (f .there .0) (omega (arith, f .there .1))
+        (and-both (reaches x (parentsOf ns) t u) _ (f .within) fits))
         (bytes-numbers later (w .2) t more)
 
     -- a document satisfies a pattern exactly if it does by label bytes
@@ -154,5 +158,6 @@ module _ (s left : List ℕ) (sh : Sheet) (was-read : sheet s ≡ read sh left) 
   pub read-by-bytes : (i : ℕ) → isSubscription sh i ≡ true
       → (satisfies (dc .nodes) (subscription sh i) ≡ true) ↔ Satisfied (labelsOf sh dc) (dc .nodes) (subscription sh i)
   read-by-bytes i there =
-      satisfies-by-bytes (labelsOf sh dc) (document-distinct s left sh was-read d rest dc doc-read) (dc .nodes) (document-known sh d rest dc doc-read) (subscription sh i)
+      satisfies-by-bytes (labelsOf sh dc) (document-distinct s left sh was-read d rest dc doc-read) (dc .nodes)
+      (document-known sh d rest dc doc-read) (subscription sh i)
       (labels-known i there)

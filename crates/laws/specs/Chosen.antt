@@ -67,7 +67,8 @@ bestPair-right es = best-right es (keep ascends (pairsBelow (length es))) noPair
 pub largest-there : (es : List Entry) (js : List ℕ) (i : ℕ) → i < length es → ((j : ℕ) → List·Memᴰ j js → j < length es) → largest es js i < length es
 unfolding largest pick
 largest-there es [] i h k = h
-largest-there es (j ∷ js) i h k = go (ltb (entrySteps (entryAt es i)) (entrySteps (entryAt es j))) (λ m g. largest-there es js m g (λ n t. k n (List·Memᴰ·tail t)))
+largest-there es (j ∷ js) i h k =
+    go (ltb (entrySteps (entryAt es i)) (entrySteps (entryAt es j))) (λ m g. largest-there es js m g (λ n t. k n (List·Memᴰ·tail t)))
   where
     go : (t : Bool) → ((m : ℕ) → m < length es → largest es js m < length es) → largest es js (pick t j i) < length es
     go true later = later j (k j (List·Memᴰ·head refl))

@@ -194,7 +194,8 @@ module _ (s left : List ℕ) (sh : Sheet) (was-read : sheet s ≡ read sh left) 
       → Decided (coversAnswer s i j) (Laying (stepsOf (subscription sh i)) (stepsOf (subscription sh j)))
   unfolding coversAnswer judged pick
   covering i j there-i there-j =
-      decided (coversAnswer s i j) (covers (subscription sh i) (subscription sh j)) _ (rw (was-read, there-i, there-j)) (covers-is-laying (subscription sh i) (subscription sh j))
+      decided (coversAnswer s i j) (covers (subscription sh i) (subscription sh j)) _ (rw (was-read, there-i, there-j))
+      (covers-is-laying (subscription sh i) (subscription sh j))
 
   -- ---- matching is by label bytes
   module _ (d rest : List ℕ) (dc : Document) (doc-read : document sh d ≡ read dc rest) where
@@ -209,7 +210,8 @@ module _ (s left : List ℕ) (sh : Sheet) (was-read : sheet s ≡ read sh left) 
     pub matching : (i : ℕ) → isSubscription sh i ≡ true → Decided (matchesAnswer s d i) (Satisfied (labelsOf sh dc) (dc .nodes) (subscription sh i))
     unfolding matchesAnswer judged pick
     matching i there =
-        decided (matchesAnswer s d i) (satisfies (dc .nodes) (subscription sh i)) _ (rw (was-read, doc-read, there)) (read-by-bytes s left sh was-read d rest dc doc-read i there)
+        decided (matchesAnswer s d i) (satisfies (dc .nodes) (subscription sh i)) _ (rw (was-read, doc-read, there))
+        (read-by-bytes s left sh was-read d rest dc doc-read i there)
 
     -- a number that doesn't exist is refused by 11
     pub matching-not-there : (i : ℕ) → isSubscription sh i ≡ false → matchesAnswer s d i ≡ asked.Refused notThere
@@ -294,7 +296,8 @@ routing s t d sheet-sound table-sound document-sound =
     let ps = sh .value .patterns in
     let ns = dc .value .nodes in
     let same : tableRoute ns (es .value) ps ≡ plainRoute ns ps =
-    table-is-plain ns ps (es .value) (document-rises (sh .value) d (dc .left) (dc .value) (dc .reads)) (fair-table-fair (sh .value) t (es .left) (es .value) (es .reads)) in
+    table-is-plain ns ps (es .value) (document-rises (sh .value) d (dc .left) (dc .value) (dc .reads))
+    (fair-table-fair (sh .value) t (es .left) (es .value) (es .reads)) in
     (sh, es, dc, record { plain = rw (sh .reads, dc .reads); by-table = rw (sh .reads, es .reads, dc .reads, same) })
 
 -- every table that is built, for every sound sheet and every limit, passes the check

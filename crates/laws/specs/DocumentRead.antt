@@ -32,4 +32,14 @@ document-read sh d rest dc h =
     let last = end-read _ (ns .middle) (ns .after) in
     let made = give-read _ _ (last .1) in
     subst (DocumentRead sh d) (made .0)
-    (record { count = n .first; others = n .others; bytes = n .bytes; middle = ls .middle; named = ls .before; many = m .value; from = m .middle; to = ns .middle; stood = ns .before })
+    (record {
+      count = n .first;
+      others = n .others;
+      bytes = n .bytes;
+      middle = ls .middle;
+      named = ls .before;
+      many = m .value;
+      from = m .middle;
+      to = ns .middle;
+      stood = ns .before;
+    })

@@ -57,7 +57,8 @@ module _ (P : Forest → Type 0) (k : Lasting P) where
   each-kept = record {
     settles = record { takes = λ es ij a c h. after-join (entryAt es (ij .fst) .pattern) ij es (at-place es (ij .fst) (a .first) h) h };
     merges = λ es ij s h. after-join (merged es ij) ij es
-        (k .merges (entryAt es (ij .fst) .pattern) (entryAt es (ij .snd) .pattern) (at-place es (ij .fst) (s .entries .first) h) (at-place es (ij .snd) (s .entries .second) h)) h;
+        (k .merges (entryAt es (ij .fst) .pattern) (entryAt es (ij .snd) .pattern) (at-place es (ij .fst) (s .entries .first) h)
+        (at-place es (ij .snd) (s .entries .second) h)) h;
     cuts = after-cut;
   }
 

@@ -69,7 +69,8 @@ module _ (q : Forest) (ij : Pair) (es : List Entry) (a : Apart es ij)
       let apart = total-join (counted i) es (ij .fst) (ij .snd) noEntry noEntry (a .first) (a .second) (a .apart) in
       let zeros : counted i noEntry ≡ 0 = ap (λ (t : Bool). pick t 1 0) (member-none i) in
       let few : x + y ≤ 1 = omega arith in
-      let sum : counted i (union q ij es) ≡ x + y = marks (hasMember i (entryAt es (ij .fst))) (hasMember i (entryAt es (ij .snd))) (hasMember i (union q ij es)) (union-members i) few in
+      let sum : counted i (union q ij es) ≡ x + y = marks (hasMember i (entryAt es (ij .fst))) (hasMember i (entryAt es (ij .snd)))
+      (hasMember i (union q ij es)) (union-members i) few in
       omega (arith, total-joinAt q ij es (counted i) a)
 
   -- which covers it
@@ -100,12 +101,14 @@ module _ (q : Forest) (ij : Pair) (es : List Entry) (a : Apart es ij)
 
       peopled : every isPeopled es ≡ true → every isPeopled (joinAt q ij es) ≡ true
       peopled h = every-of isPeopled (joinAt q ij es) (λ e k.
-          ⊎-elim (λ u. ap isPeopled u ∙ lt-ltb 0 (bitOr m n) (or-peopled m n (ltb-true 0 m (every-gives isPeopled h here)))) (every-gives isPeopled h) (join-gives q ij es k))
+          ⊎-elim (λ u. ap isPeopled u ∙ lt-ltb 0 (bitOr m n) (or-peopled m n (ltb-true 0 m (every-gives isPeopled h here))))
+          (every-gives isPeopled h) (join-gives q ij es k))
 
       within : (k : ℕ) → every (isWithin k) es ≡ true → every (isWithin k) (joinAt q ij es) ≡ true
       within k h = every-of (isWithin k) (joinAt q ij es) (λ e t.
           ⊎-elim
-          (λ u. ap (isWithin k) u ∙ lt-ltb (bitOr m n) (2 ^ k) (or-lt k m n (ltb-true m (2 ^ k) (every-gives (isWithin k) h here)) (ltb-true n (2 ^ k) (every-gives (isWithin k) h there))))
+          (λ u. ap (isWithin k) u ∙ lt-ltb (bitOr m n) (2 ^ k)
+          (or-lt k m n (ltb-true m (2 ^ k) (every-gives (isWithin k) h here)) (ltb-true n (2 ^ k) (every-gives (isWithin k) h there))))
           (every-gives (isWithin k) h) (join-gives q ij es t))
 
 -- ---- a cut carries
@@ -114,7 +117,11 @@ module _ (es : List Entry) (at : ℕ) (h : at < length es) where
   -- members stay where they are, and a cut covers what the whole covers
   cut-carries : Carries es (set es at (cutEntry (entryAt es at)))
   unfolding cutEntry entryAt isPeopled isWithin counted hasMember
-  cut-carries = record { peopled = kept isPeopled refl; within = λ n. kept (isWithin n) refl; stands = λ i p s. record { once = once i (s .once); covered = covered i p s } }
+  cut-carries = record {
+    peopled = kept isPeopled refl;
+    within = λ n. kept (isWithin n) refl;
+    stands = λ i p s. record { once = once i (s .once); covered = covered i p s };
+  }
     where
       one : List·Memᴰ (entryAt es at) es
       one = place-in es at noEntry h
@@ -135,7 +142,8 @@ module _ (es : List Entry) (at : ℕ) (h : at < length es) where
           go : (e ≡ cutEntry (entryAt es at)) ⊎ List·Memᴰ e es → covers (e .pattern) p ≡ true
           go (inl u) =
               ap (λ (f : Entry). covers (f .pattern) p) u
-              ∙ covers-trans (cut (entryAt es at .pattern)) (entryAt es at .pattern) p (cut-covers (entryAt es at .pattern)) (s .covered (entryAt es at) one (sym (ap (hasMember i) u) ∙ t))
+              ∙ covers-trans (cut (entryAt es at .pattern)) (entryAt es at .pattern) p (cut-covers (entryAt es at .pattern))
+              (s .covered (entryAt es at) one (sym (ap (hasMember i) u) ∙ t))
           go (inr k) = s .covered e k t
 
 -- ---- at first
@@ -194,7 +202,8 @@ start-fair ps = fair-of ps (entriesFrom 0 ps) (record { peopled = peopled; withi
     covered : (j : ℕ) (e : Entry) → List·Memᴰ e (entriesFrom 0 ps) → hasMember (0 + j) e ≡ true → covers (e .pattern) (getD ps j none) ≡ true
     covered j e m t =
         let r = start-gives 0 ps m in
-        let same : 0 + r .0 ≡ 0 + j = eqb-true (0 + r .0) (0 + j) (sym (member-alone (0 + r .0) (0 + j)) ∙ sym (ap (λ (x : ℕ). isMember x (0 + j)) (r .2)) ∙ t) in
+        let same : 0 + r .0 ≡ 0 + j =
+        eqb-true (0 + r .0) (0 + j) (sym (member-alone (0 + r .0) (0 + j)) ∙ sym (ap (λ (x : ℕ). isMember x (0 + j)) (r .2)) ∙ t) in
         let place : r .0 ≡ j = omega arith in
         ap (λ (f : Forest). covers f (getD ps j none)) (r .3 ∙ ap (λ (x : ℕ). getD ps x none) place) ∙ covers-refl (getD ps j none)
 
@@ -216,13 +225,18 @@ takes-fair ps = record { takes = takes }
 -- and so do a merge and a cut
 kept-fair : (ps : List Forest) → Kept (λ es. fair ps es ≡ true)
 unfolding merged merge
-kept-fair ps = record { settles = takes-fair ps; merges = merges; cuts = λ es i l h. fair-carried ps es (set es i (cutEntry (entryAt es i))) (cut-carries es i l) h }
+kept-fair ps = record {
+  settles = takes-fair ps;
+  merges = merges;
+  cuts = λ es i l h. fair-carried ps es (set es i (cutEntry (entryAt es i))) (cut-carries es i l) h;
+}
   where
     merges : (es : List Entry) (ij : Pair) → Saves es ij → fair ps es ≡ true → fair ps (joinAt (merged es ij) ij es) ≡ true
     merges es ij s h =
         let p : Forest = entryAt es (ij .fst) .pattern in
         let q : Forest = entryAt es (ij .snd) .pattern in
-        fair-carried ps es (joinAt (merged es ij) ij es) (join-carries (merged es ij) ij es (s .entries) (merge-covers-first mostSteps p q) (merge-covers-second mostSteps p q)) h
+        fair-carried ps es (joinAt (merged es ij) ij es)
+        (join-carries (merged es ij) ij es (s .entries) (merge-covers-first mostSteps p q) (merge-covers-second mostSteps p q)) h
 
 -- settling keeps a table fair
 pub settle-fair : (ps : List Forest) (es : List Entry) → fair ps es ≡ true → fair ps (settle es) ≡ true

@@ -67,7 +67,8 @@ each-of i (p ∷ ps) es h =
 pub each-gives : (i : ℕ) (ps : List Forest) (es : List Entry) → eachInOne i ps es ≡ true → (j : ℕ) → j < length ps → Stands (i + j) (getD ps j none) es
 unfolding eachInOne
 each-gives i [] es h j l = absurd (omega arith)
-each-gives i (p ∷ ps) es h zero l = subst (λ (k : ℕ). Stands k p es) (omega arith) (stands-of i p es (and-first (oneThatCovers p (entriesOf i es)) (eachInOne (suc i) ps es) h))
+each-gives i (p ∷ ps) es h zero l = subst (λ (k : ℕ). Stands k p es) (omega arith)
+    (stands-of i p es (and-first (oneThatCovers p (entriesOf i es)) (eachInOne (suc i) ps es) h))
 each-gives i (p ∷ ps) es h (suc j) l =
     subst (λ (k : ℕ). Stands k (getD ps j none) es) (omega arith)
     (each-gives (suc i) ps es (and-second (oneThatCovers p (entriesOf i es)) (eachInOne (suc i) ps es) h) j (omega arith))

@@ -62,7 +62,8 @@ one-more before text new apart i j h l e = go (eq-or-lt-of-le l′)
     go : (j ≡ length before) ⊎ (j < length before) → ⊥
     go (inl q) =
         let here : i < length before = omega arith in
-        let e′ : getD before i [] ≡ text = sym (List·getD-append before (text ∷ []) [] i here) ∙ e ∙ ap (λ (n : ℕ). getD (before ++ (text ∷ [])) n []) q ∙ getD-append-seam before text [] [] in
+        let e′ : getD before i [] ≡ text = sym (List·getD-append before (text ∷ []) [] i here) ∙ e
+        ∙ ap (λ (n : ℕ). getD (before ++ (text ∷ [])) n []) q ∙ getD-append-seam before text [] [] in
         not-both (some (sameLabel text) before) (some-of (sameLabel text) (place-in before i [] here) (ap (sameLabel text) e′ ∙ bytes-same text)) new
     go (inr q) =
         apart i j h q (sym (List·getD-append before (text ∷ []) [] i (omega arith)) ∙ e ∙ List·getD-append before (text ∷ []) [] j q)

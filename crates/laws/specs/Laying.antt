@@ -33,9 +33,11 @@ finds-of {x = near} {y} {m} {k} passes (here {later}) h = or-first (passes y m k
 finds-of {x = far} {y} {m} {k} passes (here {later}) h = or-first (passes y m k) (finds far passes k || finds far passes later) h
 finds-of {x = near} passes (after {z} {n} {kids} {later} p) h = or-second (passes z n kids) (finds near passes later) (finds-of passes p h)
 finds-of {x = far} passes (after {z} {n} {kids} {later} p) h =
-    or-second (passes z n kids) (finds far passes kids || finds far passes later) (or-second (finds far passes kids) (finds far passes later) (finds-of passes p h))
+    or-second (passes z n kids) (finds far passes kids || finds far passes later)
+    (or-second (finds far passes kids) (finds far passes later) (finds-of passes p h))
 finds-of passes (below {z} {n} {kids} {later} p) h =
-    or-second (passes z n kids) (finds far passes kids || finds far passes later) (or-first (finds far passes kids) (finds far passes later) (finds-of passes p h))
+    or-second (passes z n kids) (finds far passes kids || finds far passes later)
+    (or-first (finds far passes kids) (finds far passes later) (finds-of passes p h))
 
 -- what is found is a place that passes
 pub finds-gives : (x : Axis) (passes : Axis → ℕ → Forest → Bool) (f : Forest) → finds x passes f ≡ true → Found x passes f
@@ -52,7 +54,8 @@ finds-gives near passes (step y m kids later) h =
 finds-gives far passes (step y m kids later) h =
     ⊎-elim
     at-here
-    (λ e. ⊎-elim (λ b. found-below (finds-gives far passes kids b)) (λ l. found-after (finds-gives far passes later l)) (or-cases (finds far passes kids) (finds far passes later) e))
+    (λ e. ⊎-elim (λ b. found-below (finds-gives far passes kids b)) (λ l. found-after (finds-gives far passes later l))
+    (or-cases (finds far passes kids) (finds far passes later) e))
     (or-cases (passes y m kids) (finds far passes kids || finds far passes later) h)
   where
     at-here : passes y m kids ≡ true → Found far passes (step y m kids later)
@@ -143,7 +146,8 @@ any-trans l m n h k =
 -- what may lie on a step that may lie on a third may lie on the third
 pub mayLie-trans : (x y z : Axis) (l m n : ℕ) → mayLie x l y m ≡ true → mayLie y m z n ≡ true → mayLie x l z n ≡ true
 unfolding mayLie isNear
-mayLie-trans near near z l m n h k = and-both (isNear z) (anyOrSame l n) (and-first (isNear z) (anyOrSame m n) k) (any-trans l m n h (and-second (isNear z) (anyOrSame m n) k))
+mayLie-trans near near z l m n h k = and-both (isNear z) (anyOrSame l n) (and-first (isNear z) (anyOrSame m n) k)
+    (any-trans l m n h (and-second (isNear z) (anyOrSame m n) k))
 mayLie-trans near far z l m n h k = absurd (false≢true h)
 mayLie-trans far near z l m n h k = any-trans l m n h (and-second (isNear z) (anyOrSame m n) k)
 mayLie-trans far far z l m n h k = any-trans l m n h k
@@ -183,7 +187,8 @@ lays-trans (step x l kids later) b c h e =
     let s = follow x (r .axis) l (r .label) (r .kids) b c (r .place) f e in
     lays-step x (s .axis) l (s .label) kids later (s .kids) c (s .place)
     (mayLie-trans x (r .axis) (s .axis) l (r .label) (s .label) f (fits-here (r .axis) (s .axis) (r .label) (s .label) (r .kids) (s .kids) (s .passed)))
-    (lays-trans kids (r .kids) (s .kids) (fits-below x (r .axis) l (r .label) kids (r .kids) (r .passed)) (fits-below (r .axis) (s .axis) (r .label) (s .label) (r .kids) (s .kids) (s .passed)))
+    (lays-trans kids (r .kids) (s .kids) (fits-below x (r .axis) l (r .label) kids (r .kids) (r .passed))
+    (fits-below (r .axis) (s .axis) (r .label) (s .label) (r .kids) (s .kids) (s .passed)))
     (lays-trans later b c (others-lie x l kids later b h) e)
 
 -- every pattern covers itself

@@ -35,7 +35,8 @@ none-misses : (f c : Forest) → lays f c ≡ not (finds near (misses c) f)
 unfolding lays finds misses
 none-misses none c = refl
 none-misses (step x l kids later) c =
-    ap (λ (z : Bool). finds x (fitsAt x l (lays kids)) c && z) (none-misses later c) ∙ not-either (finds x (fitsAt x l (lays kids)) c) (finds near (misses c) later)
+    ap (λ (z : Bool). finds x (fitsAt x l (lays kids)) c && z) (none-misses later c)
+    ∙ not-either (finds x (fitsAt x l (lays kids)) c) (finds near (misses c) later)
 
 -- step k finds a place in c
 abbrev FindsPlace : List Step → Forest → ℕ → Type 0
@@ -55,7 +56,8 @@ module _ (a : List Step) (rises : Rising (stepParents a)) where
 
       missed : passesAt a (misses c) k ≡ true → ⊥
       missed e =
-          let f : finds near (misses c) (childrenOf a p) ≡ true = spot-found a rises (misses c) near p (record { number = k; there = (o, l); within = own; passed = e }) in
+          let f : finds near (misses c) (childrenOf a p) ≡ true =
+          spot-found a rises (misses c) near p (record { number = k; there = (o, l); within = own; passed = e }) in
           not-both (lays (childrenOf a p) c) h (none-misses (childrenOf a p) c ∙ ap not f)
 
   -- if each finds a place there, they are laid
@@ -63,7 +65,8 @@ module _ (a : List Step) (rises : Rising (stepParents a)) where
       → ((k : ℕ) → 1 ≤ k → k ≤ length a → t < k → stepAt a k .parent ≡ t → FindsPlace a c k)
       → lays (childrenOf a t) c ≡ true
   unfolding misses passesAt reaches
-  children-lie c t l h = none-misses (childrenOf a t) c ∙ ⊎-elim (λ e. absurd (found (finds-spot a rises (misses c) near t l e))) (λ e. not-true _ e) (true-or-false (finds near (misses c) (childrenOf a t)))
+  children-lie c t l h = none-misses (childrenOf a t) c ∙ ⊎-elim (λ e. absurd (found (finds-spot a rises (misses c) near t l e)))
+      (λ e. not-true _ e) (true-or-false (finds near (misses c) (childrenOf a t)))
     where
       found : Spot a (misses c) near t → ⊥
       found s =
@@ -179,7 +182,8 @@ module _ (a b : List Step) (rises-a : Rising (stepParents a)) (rises-b : Rising 
       lies-before k h o = rw (before (stepAt a k .parent) (omega (arith, parent-before a rises-a k o (omega arith))), before k h) (g .lies k h o)
 
       lies : (k : ℕ) → k ≤ suc n → 1 ≤ k → LiesWell b (stepAt a k) (place (stepAt a k .parent)) (place k)
-      lies = up-to n (λ k. 1 ≤ k → LiesWell b (stepAt a k) (place (stepAt a k .parent)) (place k)) lies-before (λ o. rw (before p p-before, at-next) (new .1 .lies))
+      lies =
+          up-to n (λ k. 1 ≤ k → LiesWell b (stepAt a k) (place (stepAt a k .parent)) (place k)) lies-before (λ o. rw (before p p-before, at-next) (new .1 .lies))
 
       laid : (k : ℕ) → k ≤ suc n → lays (childrenOf a k) (childrenOf b (place k)) ≡ true
       laid = up-to n (λ k. lays (childrenOf a k) (childrenOf b (place k)) ≡ true) (λ k h. rw (before k h) (g .laid k h)) (rw at-next (new .1 .laid))

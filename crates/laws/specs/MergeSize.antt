@@ -34,7 +34,8 @@ module _ (limit : ℕ) where
   merge-size p q small small₂ =
       merge-keeps (λ merge. size (merge .pattern) ≤ limit) limit p q (λ _. small) (λ _. small₂)
       (let kept = through limit p true 0 q nothing .kept in
-      let within : 0 + total branchSize kept ≤ limit = through-keeps limit SizeWithin (nothing-within 1) each-within p true 0 p q itself nothing (nothing-within 0 p q) (omega arith) in
+      let within : 0 + total branchSize kept ≤ limit =
+      through-keeps limit SizeWithin (nothing-within 1) each-within p true 0 p q itself nothing (nothing-within 0 p q) (omega arith) in
       omega (arith, joined-size kept, within))
 
   -- a merge that is p by covering is p, not clipped

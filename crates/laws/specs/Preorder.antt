@@ -132,7 +132,8 @@ spelled-up b k (p ∷ path) s ss l f m h = go (eqb p (s .parent)) refl h (spelle
     go false e hangs later =
         let other : s .parent ≡ p → ⊥ = λ z. eqb-false p (s .parent) e (sym z) in
         let off : List·Memᴰ p (k ∷ higher) → ⊥ =
-        λ n. ⊎-elim (λ z. omega arith) (λ t. let low = falling-below p higher p (up-falling p (s .parent) path (f .1)) t in omega arith) (List·Memᴰ·cases-cons n) in
+        λ n. ⊎-elim (λ z. omega arith) (λ t. let low = falling-below p higher p (up-falling p (s .parent) path (f .1)) t in omega arith)
+        (List·Memᴰ·cases-cons n) in
         let bare : childrenIn p k (s ∷ ss) ≡ none = no-child p k s ss other ∙ none-hangs p (suc k) (k ∷ higher) ss hangs (omega arith) off in
         rw (bare, add-zero)
         (later (⊎-elim (λ z. absurd (other z)) (λ t. t) (List·Memᴰ·cases-cons m)) hangs)

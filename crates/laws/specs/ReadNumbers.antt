@@ -78,7 +78,8 @@ module _ {A : Type 0} (r : Reader A) (w : A → List ℕ) (Sound : A → Type 0)
       let one = bind-read r _ bs xs left h in
       let first = each bs (one .value) (one .middle) kind (one .before) in
       let more = bind-read (repeat n r) _ (one .middle) xs left (one .after) in
-      let later = repeat-read Kind rest each n (one .middle) (more .value) (more .middle) (rest (w (one .value)) (one .middle) (subst Kind (first .1) kind)) (more .before) in
+      let later = repeat-read Kind rest each n (one .middle) (more .value) (more .middle)
+      (rest (w (one .value)) (one .middle) (subst Kind (first .1) kind)) (more .before) in
       let made = give-read _ (more .middle) (more .after) in
       let stood : bs ≡ (w (one .value) ++ flatMap w (more .value)) ++ left = rw append-assoc (cc) in
       subst (λ (l : List A). ((a : A) → List·Memᴰ a l → Sound a) × (length l ≡ suc n) × (bs ≡ flatMap w l ++ left)) (made .0)

@@ -64,12 +64,18 @@ sheet-read bs left sh h =
     let fits = test-read _ _ _ (m .others) (m .after) in
     let ps = bind-read _ _ (m .others) sh left (fits .1) in
     let known = length (ls .value) in
-    let r = repeat-read (pattern known) patternBytes (SoundPattern known) (λ _. Unit {0}) (λ us vs k. tt) (λ s p l k. pattern-read known s p l) (m .first) (m .others) (ps .value) (ps .middle) tt (ps .before) in
+    let r = repeat-read (pattern known) patternBytes (SoundPattern known) (λ _. Unit {0}) (λ us vs k. tt)
+    (λ s p l k. pattern-read known s p l) (m .first) (m .others) (ps .value) (ps .middle) tt (ps .before) in
     let last = end-read _ (ps .middle) (ps .after) in
     let made = give-read _ [] (last .1) in
     let here : bs ≡ length (ls .value) ∷ (flatMap labelBytes (ls .value) ++ (length (ps .value) ∷ (flatMap patternBytes (ps .value) ++ []))) = cc in
     subst (λ (s : Sheet). SheetRead bs s left) (made .0)
-    (record { few = omega (arith, r .1, leb-true (m .first) mostPatterns (fits .0)); sound = r .0; stood = sym (here ∙ rw append-nil refl); none-left = sym (made .1) })
+    (record {
+      few = omega (arith, r .1, leb-true (m .first) mostPatterns (fits .0));
+      sound = r .0;
+      stood = sym (here ∙ rw append-nil refl);
+      none-left = sym (made .1);
+    })
 
 -- a sheet that was read is written as the bytes that it was read from
 pub sheet-round : (bs left : List ℕ) (sh : Sheet) → sheet bs ≡ read sh left → sheetBytes sh ≡ bs
@@ -124,7 +130,8 @@ table-read sh bs left es h small =
     let fits = test-read _ _ _ (n .others) (n .after) in
     let got = bind-read _ _ (n .others) es left (fits .1) in
     let small₂ : Bytes (n .first ∷ n .others) = subst Bytes (n .bytes) small in
-    let r = repeat-read (entry known) entryBytes (SoundEntry known) Bytes bytes-left (entry-read known) (n .first) (n .others) (got .value) (got .middle) (λ k. small₂ (suc k)) (got .before) in
+    let r = repeat-read (entry known) entryBytes (SoundEntry known) Bytes bytes-left (entry-read known) (n .first) (n .others)
+    (got .value) (got .middle) (λ k. small₂ (suc k)) (got .before) in
     let last = end-read _ (got .middle) (got .after) in
     let made = give-read _ [] (last .1) in
     let here : bs ≡ length (got .value) ∷ (flatMap entryBytes (got .value) ++ []) = cc in

@@ -37,7 +37,8 @@ pub record Kept (Q : List Entry → Type 0) : Type 0 where
 
 -- the entry with most steps is there, where there are entries
 largest-at : (e : Entry) (es : List Entry) → largest (e ∷ es) (numbersFrom 0 (length (e ∷ es))) 0 < length (e ∷ es)
-largest-at e es = largest-there (e ∷ es) (numbersFrom 0 (length (e ∷ es))) 0 (omega arith) (λ j m. let b = numbersFrom-gives 0 (length (e ∷ es)) m in omega arith)
+largest-at e es = largest-there (e ∷ es) (numbersFrom 0 (length (e ∷ es))) 0 (omega arith)
+    (λ j m. let b = numbersFrom-gives 0 (length (e ∷ es)) m in omega arith)
 
 -- no further round
 unfoldable stopped : List Entry → Table
@@ -78,7 +79,8 @@ module _ (Q : List Entry → Type 0) (k : Kept Q) where
   -- and every build keeps
   pub table-keeps : (limit : ℕ) (ps : List Forest) → Q (entriesFrom 0 ps) → Q (build limit ps .entries)
   unfolding build
-  table-keeps limit ps q = rounds-keep limit (stepsTogether (settle (entriesFrom 0 ps))) (settle (entriesFrom 0 ps)) (settle-keeps Q (k .settles) (entriesFrom 0 ps) q)
+  table-keeps limit ps q = rounds-keep limit (stepsTogether (settle (entriesFrom 0 ps))) (settle (entriesFrom 0 ps))
+      (settle-keeps Q (k .settles) (entriesFrom 0 ps) q)
 
 -- ---- steps
 

@@ -42,7 +42,8 @@ module _ (ns : List Node) (es : List Entry) (up : Rising (parentsOf ns)) where
   entry-matches i p h s =
       let r = entry-of p (entriesOf i es) h in
       let k = keep-gives (hasMember i) es (r .1) in
-      some-of (matchesFor ns i) (k .0) (and-both (hasMember i (r .0)) (satisfies ns (r .0 .pattern)) (k .1) (covering-loses-none ns (r .0 .pattern) p up (r .2) s))
+      some-of (matchesFor ns i) (k .0)
+      (and-both (hasMember i (r .0)) (satisfies ns (r .0 .pattern)) (k .1) (covering-loses-none ns (r .0 .pattern) p up (r .2) s))
 
   -- so every subscription has its own answer
   same-answers : (i : ℕ) (ps : List Forest) → eachInOne i ps es ≡ true → deliveredFrom ns es i ps ≡ map (satisfies ns) ps

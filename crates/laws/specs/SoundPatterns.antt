@@ -108,8 +108,10 @@ module _ (known : ℕ) where
       let r = steps-read known (n .first) [] (n .others) (ss .value) (ss .middle) (ss .before) in
       let w = steps-written known (n .first) (n .others) (ss .middle) (ss .value) (ss .before) in
       let stood : bs ≡ length (ss .value) ∷ (flatMap stepBytes (ss .value) ++ left) = cc in
-      subst (λ (g : Forest). SoundPattern known g × (bs ≡ patternBytes g ++ left)) (made .0)
-      (sound-pattern (ss .value) (omega (arith, leb-true (n .first) mostSteps (few .0))) w (r .0), stood ∙ ap (λ l. l ++ left) (sym (pattern-bytes (ss .value) w)))
+      subst (λ (g : Forest). SoundPattern known g × (bs ≡ patternBytes g ++ left)) (made .0) (
+        sound-pattern (ss .value) (omega (arith, leb-true (n .first) mostSteps (few .0))) w (r .0),
+        stood ∙ ap (λ l. l ++ left) (sym (pattern-bytes (ss .value) w)),
+      )
 
   -- a sound pattern is read from its bytes
   pub read-pattern : (f : Forest) (left : List ℕ) → SoundPattern known f → pattern known (patternBytes f ++ left) ≡ read f left
@@ -117,5 +119,6 @@ module _ (known : ℕ) where
   read-pattern f left h =
       read-test _ _ _ _ (le-leb (size f) mostSteps (h .few))
       ∙ ap (λ (n : ℕ). _>>=_ (steps known n []) (λ ss. give (forest ss)) (flatMap stepBytes (stepsOf f) ++ left)) (sym (length-stepsOf f))
-      ∙ read-bind (steps known (length (stepsOf f)) []) _ _ (stepsOf f) left (read-steps known [] (stepsOf f) left (written-sound known f (h .within) (h .lone)))
+      ∙ read-bind (steps known (length (stepsOf f)) []) _ _ (stepsOf f) left
+      (read-steps known [] (stepsOf f) left (written-sound known f (h .within) (h .lone)))
       ∙ ap (λ (g : Forest). read g left) (forest-stepsOf f)

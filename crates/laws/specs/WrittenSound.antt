@@ -113,7 +113,8 @@ module _ (known : ℕ) where
         λ z. absurd (true≢false (sym z ∙ bare)),
         within .0,
         rw (bare, or-false seen, append-assoc (stepsFrom k (suc k) kids) (stepsFrom p j later) rest, up)
-            (sound-below kids k (suc k) j (k ∷ p ∷ above) (p ∷ above) seen (stepsFrom p j later ++ rest) (λ z. omega arith) refl falls (up-first k (p ∷ above)) (within .1)
+            (sound-below kids k (suc k) j (k ∷ p ∷ above) (p ∷ above) seen (stepsFrom p j later ++ rest)
+            (λ z. omega arith) refl falls (up-first k (p ∷ above)) (within .1)
             (λ next f u. sound-below later p j e next above seen rest deep (omega arith) f (up-higher j p k next above f low u) (within .2) then)),
       )
 
@@ -133,7 +134,8 @@ module _ (known : ℕ) where
         λ z. is-false seen (λ t. omega (arith, after t)),
         within .0,
         rw up
-            (sound-below kids k (suc k) j (k ∷ 0 ∷ above) (0 ∷ above) (seen || true) (stepsFrom 0 j later) (λ z. omega arith) refl falls (up-first k (0 ∷ above)) (within .1)
+            (sound-below kids k (suc k) j (k ∷ 0 ∷ above) (0 ∷ above) (seen || true) (stepsFrom 0 j later)
+            (λ z. omega arith) refl falls (up-first k (0 ∷ above)) (within .1)
             (λ next f u. sound-root later j next above (seen || true) f (up-higher j 0 k next above f low u) (within .2) (omega arith) (λ t. omega arith))),
       )
   sound-root (step far l kids later) k path above seen fall up within lone after =
@@ -145,11 +147,13 @@ module _ (known : ℕ) where
         λ z. absurd (false≢true z),
         within .0,
         rw (up, or-false seen)
-            (sound-below kids k (suc k) j (k ∷ 0 ∷ above) (0 ∷ above) seen (stepsFrom 0 j later) (λ z. omega arith) refl falls (up-first k (0 ∷ above)) (within .1)
+            (sound-below kids k (suc k) j (k ∷ 0 ∷ above) (0 ∷ above) seen (stepsFrom 0 j later)
+            (λ z. omega arith) refl falls (up-first k (0 ∷ above)) (within .1)
             (λ next f u. sound-root later j next above seen f (up-higher j 0 k next above f low u) (within .2) lone after)),
       )
 
   -- the written steps of a forest with such labels, at most one root step near, are sound
   pub written-sound : (f : Forest) → LabelsWithin known f → nears f ≤ 1 → SoundSteps known [] (stepsOf f)
   unfolding stepsOf pathAfter some
-  written-sound f within lone = sound-enough known [] (stepsFrom 0 1 f) (sound-root f 1 (0 ∷ []) [] false (omega arith, tt) (up-first 0 []) within lone (λ z. absurd (false≢true z)))
+  written-sound f within lone = sound-enough known [] (stepsFrom 0 1 f)
+      (sound-root f 1 (0 ∷ []) [] false (omega arith, tt) (up-first 0 []) within lone (λ z. absurd (false≢true z)))

@@ -249,7 +249,20 @@ pub record All : Type 0 where
   pub givens : List (Given RouteValues)
 
 unfoldable pub answers : All
-answers = record { satisfied = satisfied; covered = covered; merges = merges; sizes = sizes; numbers = numbers; rounds = rounds; settled = settled; tries = tries; asks = asks; writings = writings; outputs = outputs; givens = givens }
+answers = record {
+  satisfied = satisfied;
+  covered = covered;
+  merges = merges;
+  sizes = sizes;
+  numbers = numbers;
+  rounds = rounds;
+  settled = settled;
+  tries = tries;
+  asks = asks;
+  writings = writings;
+  outputs = outputs;
+  givens = givens;
+}
 
 unfoldable pub expected : All
 expected = record {
