@@ -67,7 +67,8 @@ pub fn first_entries(s: &[u8], v: Subscriptions) -> Table
 // Writes the table that is built for a limit from a sheet that was judged.
 pub fn build_first(s: &[u8], limit: u16, out: &mut [u8]) -> Built
     requires { ⌜ SheetStands (now s) ⌝ }
-    ensures { λ r. ⌜ (r ≡ buildAnswer (withRoom (now (out .entry)) (buildSays (sheetAt (now (s .entry))) limit))) × (now (out .exit) ≡ after (now (out .entry)) (withRoom (now (out .entry)) (buildSays (sheetAt (now (s .entry))) limit))) ⌝ }
+    ensures { λ r. ⌜ (r ≡ buildAnswer (withRoom (now (out .entry)) (buildSays (sheetAt (now (s .entry))) limit)))
+        × (now (out .exit) ≡ after (now (out .entry)) (withRoom (now (out .entry)) (buildSays (sheetAt (now (s .entry))) limit))) ⌝ }
 {
     let v = subscriptions_in(s);
     let made = build(limit, first_entries(s, v));

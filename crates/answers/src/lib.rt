@@ -27,7 +27,8 @@ pub fn covers(s: &[u8], i: u64, j: u64) -> Asked
 
 // The merge of subscription i with subscription j: a step count and the steps, written from the start of the output.
 pub fn merge(s: &[u8], i: u64, j: u64, out: &mut [u8]) -> Merged
-    ensures { λ r. ⌜ (r ≡ mergeAnswer (withRoom (now (out .entry)) (mergeWriting (now (s .entry)) i j))) × (now (out .exit) ≡ after (now (out .entry)) (withRoom (now (out .entry)) (mergeWriting (now (s .entry)) i j))) ⌝ }
+    ensures { λ r. ⌜ (r ≡ mergeAnswer (withRoom (now (out .entry)) (mergeWriting (now (s .entry)) i j)))
+        × (now (out .exit) ≡ after (now (out .entry)) (withRoom (now (out .entry)) (mergeWriting (now (s .entry)) i j))) ⌝ }
 {
     match sheet(s) {
         Cur::At(x) => merge_numbered(s, i, j, out),
@@ -37,7 +38,8 @@ pub fn merge(s: &[u8], i: u64, j: u64, out: &mut [u8]) -> Merged
 
 // The table for a limit, written from the start of the output.
 pub fn build(s: &[u8], limit: u16, out: &mut [u8]) -> Built
-    ensures { λ r. ⌜ (r ≡ buildAnswer (withRoom (now (out .entry)) (buildWriting (now (s .entry)) limit))) × (now (out .exit) ≡ after (now (out .entry)) (withRoom (now (out .entry)) (buildWriting (now (s .entry)) limit))) ⌝ }
+    ensures { λ r. ⌜ (r ≡ buildAnswer (withRoom (now (out .entry)) (buildWriting (now (s .entry)) limit)))
+        × (now (out .exit) ≡ after (now (out .entry)) (withRoom (now (out .entry)) (buildWriting (now (s .entry)) limit))) ⌝ }
 {
     match sheet(s) {
         Cur::At(x) => build_first(s, limit, out),

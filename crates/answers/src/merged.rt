@@ -19,7 +19,8 @@ ghost use Rattle.answers.specs.Says.{mergeSays, markedSays};
 // Writes what a merge gave.
 fn write_merge(m: Marked, out: &mut [u8]) -> Merged
     requires { ⌜ WellFormed (m .pattern) ⌝ }
-    ensures { λ r. ⌜ (r ≡ mergeAnswer (withRoom (now (out .entry)) (markedSays (patternOf (m .pattern)) (m .clipped)))) × (now (out .exit) ≡ after (now (out .entry)) (withRoom (now (out .entry)) (markedSays (patternOf (m .pattern)) (m .clipped)))) ⌝ }
+    ensures { λ r. ⌜ (r ≡ mergeAnswer (withRoom (now (out .entry)) (markedSays (patternOf (m .pattern)) (m .clipped))))
+        × (now (out .exit) ≡ after (now (out .entry)) (withRoom (now (out .entry)) (markedSays (patternOf (m .pattern)) (m .clipped)))) ⌝ }
 {
     let p = m.pattern;
     if write_pattern(out, p) {
@@ -34,7 +35,8 @@ fn write_merge(m: Marked, out: &mut [u8]) -> Merged
 // Writes the merge of subscription i of a sheet that was judged with subscription j.
 pub fn merge_numbered(s: &[u8], i: u64, j: u64, out: &mut [u8]) -> Merged
     requires { ⌜ SheetStands (now s) ⌝ }
-    ensures { λ r. ⌜ (r ≡ mergeAnswer (withRoom (now (out .entry)) (mergeSays (sheetAt (now (s .entry))) i j))) × (now (out .exit) ≡ after (now (out .entry)) (withRoom (now (out .entry)) (mergeSays (sheetAt (now (s .entry))) i j))) ⌝ }
+    ensures { λ r. ⌜ (r ≡ mergeAnswer (withRoom (now (out .entry)) (mergeSays (sheetAt (now (s .entry))) i j)))
+        × (now (out .exit) ≡ after (now (out .entry)) (withRoom (now (out .entry)) (mergeSays (sheetAt (now (s .entry))) i j))) ⌝ }
 {
     let v = subscriptions_in(s);
     let count = v.count as u64;

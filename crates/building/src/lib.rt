@@ -33,7 +33,9 @@ fn one_more(m: Made) -> Made
 // The table for a limit, from the first entries on, and the number of rounds.
 pub fn build(limit: u16, first: Table) -> Made
     requires { ⌜ WellFormedTable first ⌝ }
-    ensures { λ r. ⌜ (tableOf (r .table) ≡ buildFrom limit (tableOf first) .entries) × (r .rounds ≡ buildFrom limit (tableOf first) .rounds) × (r .rounds ≤ stepsTogether (settle (tableOf first))) × WellFormedTable (r .table) ⌝ }
+    ensures { λ r. ⌜ (tableOf (r .table) ≡ buildFrom limit (tableOf first) .entries)
+        × (r .rounds ≡ buildFrom limit (tableOf first) .rounds) × (r .rounds ≤ stepsTogether (settle (tableOf first)))
+        × WellFormedTable (r .table) ⌝ }
 {
     let most = limit as usize;
     let settled = settle(first);

@@ -46,7 +46,8 @@ pub extern "C" fn bench_covers(s: &[u8], i: u64, j: u64) -> Covering
 
 #[no_mangle]
 pub extern "C" fn bench_merge(s: &[u8], i: u64, j: u64, out: &mut [u8]) -> Merging
-    ensures { λ r. ⌜ MergeGives (now (s .entry)) i j (now (out .entry)) (byNumber (r .number) (record { length = r .length; clipped = r .clipped })) (now (out .exit)) ⌝ }
+    ensures { λ r. ⌜ MergeGives (now (s .entry)) i j (now (out .entry))
+        (byNumber (r .number) (record { length = r .length; clipped = r .clipped })) (now (out .exit)) ⌝ }
 {
     match hub::merge(s, i, j, out) {
         Merged::Refused(n) => Merging {
@@ -64,7 +65,8 @@ pub extern "C" fn bench_merge(s: &[u8], i: u64, j: u64, out: &mut [u8]) -> Mergi
 
 #[no_mangle]
 pub extern "C" fn bench_build(s: &[u8], limit: u16, out: &mut [u8]) -> Building
-    ensures { λ r. ⌜ BuildGives (now (s .entry)) limit (now (out .entry)) (byNumber (r .number) (record { length = r .length; rounds = r .rounds })) (now (out .exit)) ⌝ }
+    ensures { λ r. ⌜ BuildGives (now (s .entry)) limit (now (out .entry))
+        (byNumber (r .number) (record { length = r .length; rounds = r .rounds })) (now (out .exit)) ⌝ }
 {
     match hub::build(s, limit, out) {
         Built::Refused(n) => Building {

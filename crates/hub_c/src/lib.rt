@@ -44,7 +44,8 @@ pub extern "C" fn hub_plain_route(s: &[u8], d: &[u8]) -> PlainRoute
 
 #[no_mangle]
 pub extern "C" fn hub_table_route(s: &[u8], t: &[u8], d: &[u8]) -> TableRoute
-    ensures { λ r. ⌜ TableRouteGives (now (s .entry)) (now (t .entry)) (now (d .entry)) (byNumber (r .number) (record { set = r .delivered; tried = r .tried })) ⌝ }
+    ensures { λ r. ⌜ TableRouteGives (now (s .entry)) (now (t .entry)) (now (d .entry))
+        (byNumber (r .number) (record { set = r .delivered; tried = r .tried })) ⌝ }
 {
     match hub::table_route(s, t, d) {
         Tabled::Refused(n) => TableRoute {

@@ -14,8 +14,11 @@ use Rattle.meaning.specs.Reader.{Reading, read, refused, Went, numberOf}
 use Rattle.meaning.specs.Sections.{Sheet, sheet, Document, document, Entry}
 use Rattle.meaning.specs.Routing.{plainRoute, tableRoute, tried}
 use Rattle.meaning.specs.LabelBytes.{labelsOf, isLabel, labelAt}
-use Rattle.meaning.specs.Calls.{judged, fairTable, Writing, refuses, writes, withRoom, after, mergeWriting, mergeAnswer, buildWriting, buildAnswer, plainAnswer, tableAnswer, matchesAnswer, coversAnswer, sheetNumber, documentNumber, tableNumber, labelNumber, labelPart}
-use Rattle.meaning.specs.Given.{Given, refusal, gives, byNumber, ToldByNumber, askedGiven, MergeValues, mergedGiven, BuildValues, builtGiven, routedGiven, RouteValues, tabledGiven}
+use Rattle.meaning.specs.Calls.{judged, fairTable, Writing, refuses, writes, withRoom, after, mergeWriting, mergeAnswer, buildWriting, buildAnswer}
+use Rattle.meaning.specs.Calls.{plainAnswer, tableAnswer, matchesAnswer, coversAnswer, sheetNumber, documentNumber, tableNumber, labelNumber}
+use Rattle.meaning.specs.Calls.{labelPart}
+use Rattle.meaning.specs.Given.{Given, refusal, gives, byNumber, ToldByNumber, askedGiven, MergeValues, mergedGiven}
+use Rattle.meaning.specs.Given.{BuildValues, builtGiven, routedGiven, RouteValues, tabledGiven}
 use Rattle.meaning.specs.Promises.{MatchesGives, CoversGives, MergeGives, BuildGives, PlainRouteGives, TableRouteGives}
 use Rattle.meaning.specs.declared.Asked.the-variants as asked
 use Rattle.meaning.specs.declared.Merged.the-variants as merged

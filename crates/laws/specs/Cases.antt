@@ -7,18 +7,25 @@ use mathlib.Core.List.{List, [], _∷_, flatMap}
 use Rattle.base.specs.Choice.{pick}
 use Rattle.base.specs.Lists.{some, every, keep, total, without, numbersFrom}
 use Rattle.meaning.specs.Reader.{go-on, _>>=_, _>>_, give, repeat, unless, byte, bytes, number, end, numberOf}
-use Rattle.meaning.specs.Forest.{axisOf, axisNumber, isNear, Forest, none, size, childrenIn, forest, stepsFrom, stepsOf, parentIn, isChild, isBelowIn, isBelow, reaches}
-use Rattle.meaning.specs.Sections.{sameLabel, label, labels, upFrom, pathAfter, mayHang, isNearRoot, nearRoot, aStep, steps, pattern, sheet, nodeParent, aNode, nodes, document, entry, table}
+use Rattle.meaning.specs.Forest.{axisOf, axisNumber, isNear, Forest, none, size, childrenIn, forest, stepsFrom}
+use Rattle.meaning.specs.Forest.{stepsOf, parentIn, isChild, isBelowIn, isBelow, reaches}
+use Rattle.meaning.specs.Sections.{sameLabel, label, labels, upFrom, pathAfter, mayHang, isNearRoot, nearRoot, aStep}
+use Rattle.meaning.specs.Sections.{steps, pattern, sheet, nodeParent, aNode, nodes, document, entry, table}
 use Rattle.meaning.specs.Satisfying.{anyOrSame, parentsOf, labelIn, fitsBelow, holdBelow, satisfies}
 use Rattle.meaning.specs.Covering.{mayLie, finds, fitsAt, lays, covers}
-use Rattle.meaning.specs.Merging.{Merge, alone, joined, branchSize, laidOn, staysBeside, nothing, offer, commonLabel, bodyOf, meet, meetAt, across, through, mergeWithin, merge}
-use Rattle.meaning.specs.Building.{noEntry, entryAt, entrySteps, stepsTogether, entriesFrom, pair, coversOther, ascends, pairsOf, pairsBelow, joinAt, covering, settleAt, settleTimes, settle, saves, better, bestOf, bestPair, cut, largest, cutLargest, mergeOrCut, round, roundsFrom, build}
+use Rattle.meaning.specs.Merging.{Merge, alone, joined, branchSize, laidOn, staysBeside, nothing, offer}
+use Rattle.meaning.specs.Merging.{commonLabel, bodyOf, meet, meetAt, across, through, mergeWithin, merge}
+use Rattle.meaning.specs.Building.{noEntry, entryAt, entrySteps, stepsTogether, entriesFrom, pair, coversOther, ascends}
+use Rattle.meaning.specs.Building.{pairsOf, pairsBelow, joinAt, covering, settleAt, settleTimes, settle, saves, better}
+use Rattle.meaning.specs.Building.{bestOf, bestPair, cut, largest, cutLargest, mergeOrCut, round, roundsFrom, build}
 use Rattle.meaning.specs.Fair.{isMember, hasMember, entriesOf, oneThatCovers, eachInOne, isPeopled, isWithin, fair}
 use Rattle.meaning.specs.Routing.{deliverySet, plainRoute, membersOf, matchesFor, deliveredFrom, tableRoute, triedFor, tried}
 use Rattle.meaning.specs.LabelBytes.{labelAt}
 use Rattle.meaning.specs.Written.{stepBytes, patternBytes, numberBytes, entryBytes, tableBytes}
-use Rattle.meaning.specs.Calls.{judged, fairTable, isSubscription, subscription, matchesAnswer, coversAnswer, Writing, writes, mergeWriting, buildWriting, plainAnswer, tableAnswer}
-use Rattle.meaning.specs.Printing.{ascii, decimalIn, decimal, axisText, labelText, several, inBrackets, branchesText, patternText, commaText, totalsText, entryText, tableText, asking, printed}
+use Rattle.meaning.specs.Calls.{judged, fairTable, isSubscription, subscription, matchesAnswer, coversAnswer}
+use Rattle.meaning.specs.Calls.{Writing, writes, mergeWriting, buildWriting, plainAnswer, tableAnswer}
+use Rattle.meaning.specs.Printing.{ascii, decimalIn, decimal, axisText, labelText, several, inBrackets, branchesText}
+use Rattle.meaning.specs.Printing.{patternText, commaText, totalsText, entryText, tableText, asking, printed}
 use Rattle.meaning.specs.declared.Asked.{Asked}
 use Rattle.meaning.specs.declared.Asked.the-variants as asked
 use Rattle.meaning.specs.declared.Routed.{Routed}

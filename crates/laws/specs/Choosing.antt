@@ -11,7 +11,8 @@ use Rattle.base.specs.Lists.{some, keep, total}
 use Rattle.meaning.specs.Forest.{Forest}
 use Rattle.meaning.specs.Satisfying.{anyOrSame}
 use Rattle.meaning.specs.Covering.{lays, covers}
-use Rattle.meaning.specs.Merging.{Branch, joined, branchSize, laidOn, staysBeside, Building, nothing, offer, Body, commonLabel, bodyOf, through, Merge, mergeWithin}
+use Rattle.meaning.specs.Merging.{Branch, joined, branchSize, laidOn, staysBeside, Building, nothing, offer}
+use Rattle.meaning.specs.Merging.{Body, commonLabel, bodyOf, through, Merge, mergeWithin}
 
 -- what stays of those kept when a candidate is put
 abbrev pub staying : Branch → List Branch → List Branch

@@ -13,7 +13,8 @@ use Rattle.base.specs.Lists.{keep, numbersFrom}
 use Rattle.base.specs.ListLaws.{keep-gives, numbersFrom-of}
 use Rattle.base.specs.Replacing.{total-pos}
 use Rattle.meaning.specs.Sections.{Entry}
-use Rattle.meaning.specs.Building.{Pair, pairsBelow, noEntry, entryAt, entrySteps, stepsTogether, Best, noPair, best, better, bestOf, bestPair, saves, ascends, largest}
+use Rattle.meaning.specs.Building.{Pair, pairsBelow, noEntry, entryAt, entrySteps, stepsTogether, Best, noPair}
+use Rattle.meaning.specs.Building.{best, better, bestOf, bestPair, saves, ascends, largest}
 use Rattle.laws.specs.Unions.{Apart, pairs-below}
 
 -- a pair whose merge has fewer steps than both together

@@ -23,9 +23,12 @@ use Rattle.meaning.specs.Routing.{plainRoute, tableRoute, tried}
 use Rattle.meaning.specs.LabelBytes.{labelsOf, isLabel, labelAt}
 use Rattle.meaning.specs.ByBytes.{Satisfied}
 use Rattle.meaning.specs.Written.{patternBytes, sheetBytes, tableBytes}
-use Rattle.meaning.specs.Calls.{judged, fairTable, isSubscription, subscription, sheetNumber, documentNumber, tableNumber, matchesAnswer, coversAnswer, refuses, writes, withRoom, after, mergeWriting, mergeAnswer, buildWriting, buildAnswer, plainAnswer, tableAnswer, labelNumber, labelPart}
+use Rattle.meaning.specs.Calls.{judged, fairTable, isSubscription, subscription, sheetNumber, documentNumber, tableNumber}
+use Rattle.meaning.specs.Calls.{matchesAnswer, coversAnswer, refuses, writes, withRoom, after, mergeWriting, mergeAnswer}
+use Rattle.meaning.specs.Calls.{buildWriting, buildAnswer, plainAnswer, tableAnswer, labelNumber, labelPart}
 use Rattle.meaning.specs.Printing.{asking}
-use Rattle.meaning.specs.Given.{Given, refusal, gives, ToldByNumber, askedGiven, MergeValues, mergedGiven, BuildValues, builtGiven, routedGiven, RouteValues, tabledGiven}
+use Rattle.meaning.specs.Given.{Given, refusal, gives, ToldByNumber, askedGiven, MergeValues, mergedGiven}
+use Rattle.meaning.specs.Given.{BuildValues, builtGiven, routedGiven, RouteValues, tabledGiven}
 use Rattle.meaning.specs.Promises.{MatchesGives, CoversGives, MergeGives, BuildGives, PlainRouteGives, TableRouteGives}
 use Rattle.meaning.specs.declared.Asked.{Asked}
 use Rattle.meaning.specs.declared.Asked.the-variants as asked

@@ -15,7 +15,8 @@ use Rattle.base.specs.Replacing.{total-set}
 use Rattle.meaning.specs.Forest.{Forest}
 use Rattle.meaning.specs.Sections.{Entry}
 use Rattle.meaning.specs.Merging.{merge}
-use Rattle.meaning.specs.Building.{Pair, noEntry, entryAt, entrySteps, stepsTogether, entriesFrom, joinAt, settle, Best, noPair, best, bestPair, saves, cut, largest, cutLargest, mergeOrCut, round, Table, roundsFrom, build}
+use Rattle.meaning.specs.Building.{Pair, noEntry, entryAt, entrySteps, stepsTogether, entriesFrom, joinAt, settle, Best, noPair, best}
+use Rattle.meaning.specs.Building.{bestPair, saves, cut, largest, cutLargest, mergeOrCut, round, Table, roundsFrom, build}
 use Rattle.laws.specs.Cutting.{size-cut}
 use Rattle.laws.specs.Unions.{union, steps-join}
 use Rattle.laws.specs.Settling.{Takes, settle-keeps, settle-steps}

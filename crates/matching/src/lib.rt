@@ -116,7 +116,8 @@ fn two_bytes(d: &[u8], a: usize) -> usize
 
 // Fills the notes of a document of n nodes, from the last to the first.
 fn fill(cells: &mut [u8; CELLS], d: &[u8], at: usize, n: usize, p: Pattern)
-    requires { ⌜ WellFormed p × (n ≤ mostNodes) × (at + 3 * n ≤ length (now d)) × Rising (parentsOf (nodesAt (now d) at n)) × Filled (nodesAt (now d) at n) (stepsIn p) n (now cells) ⌝ }
+    requires { ⌜ WellFormed p × (n ≤ mostNodes) × (at + 3 * n ≤ length (now d)) × Rising (parentsOf (nodesAt (now d) at n))
+        × Filled (nodesAt (now d) at n) (stepsIn p) n (now cells) ⌝ }
     ensures { λ r. ⌜ Filled (nodesAt (now (d .entry)) at n) (stepsIn p) 0 (now (cells .exit)) ⌝ }
 {
     let mut u = n;

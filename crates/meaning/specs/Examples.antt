@@ -8,17 +8,23 @@ use lib.ListN.{replicate}
 use Rattle.base.specs.Choice.{pick}
 use Rattle.base.specs.Lists.{some, every, keep, total, without, numbersFrom}
 use Rattle.meaning.specs.Reader.{go-on, _>>=_, _>>_, give, repeat, unless, byte, bytes, number, end, numberOf}
-use Rattle.meaning.specs.Forest.{axisOf, axisNumber, isNear, Forest, none, step, size, childrenIn, forest, stepsFrom, stepsOf, parentIn, isChild, isBelowIn, isBelow, reaches, beside}
-use Rattle.meaning.specs.Sections.{sameLabel, label, labels, upFrom, pathAfter, mayHang, isNearRoot, nearRoot, aStep, steps, pattern, sheet, Node, nodeParent, aNode, nodes, document, entry, table}
+use Rattle.meaning.specs.Forest.{axisOf, axisNumber, isNear, Forest, none, step, size, childrenIn, forest, stepsFrom}
+use Rattle.meaning.specs.Forest.{stepsOf, parentIn, isChild, isBelowIn, isBelow, reaches, beside}
+use Rattle.meaning.specs.Sections.{sameLabel, label, labels, upFrom, pathAfter, mayHang, isNearRoot, nearRoot, aStep, steps}
+use Rattle.meaning.specs.Sections.{pattern, sheet, Node, nodeParent, aNode, nodes, document, entry, table}
 use Rattle.meaning.specs.Satisfying.{anyOrSame, parentsOf, labelIn, fitsBelow, holdBelow, satisfies}
 use Rattle.meaning.specs.Covering.{mayLie, finds, fitsAt, lays, covers}
-use Rattle.meaning.specs.Merging.{Merge, alone, joined, branchSize, laidOn, staysBeside, nothing, offer, commonLabel, bodyOf, meet, meetAt, across, through, mergeWithin, merge}
-use Rattle.meaning.specs.Building.{noEntry, entryAt, entrySteps, stepsTogether, entriesFrom, pair, coversOther, ascends, pairsOf, pairsBelow, joinAt, covering, settleAt, settleTimes, settle, saves, better, bestOf, bestPair, cut, largest, cutLargest, mergeOrCut, round, roundsFrom, build}
+use Rattle.meaning.specs.Merging.{Merge, alone, joined, branchSize, laidOn, staysBeside, nothing, offer}
+use Rattle.meaning.specs.Merging.{commonLabel, bodyOf, meet, meetAt, across, through, mergeWithin, merge}
+use Rattle.meaning.specs.Building.{noEntry, entryAt, entrySteps, stepsTogether, entriesFrom, pair, coversOther, ascends}
+use Rattle.meaning.specs.Building.{pairsOf, pairsBelow, joinAt, covering, settleAt, settleTimes, settle, saves, better}
+use Rattle.meaning.specs.Building.{bestOf, bestPair, cut, largest, cutLargest, mergeOrCut, round, roundsFrom, build}
 use Rattle.meaning.specs.Fair.{isMember, hasMember, entriesOf, oneThatCovers, eachInOne, isPeopled, isWithin, fair}
 use Rattle.meaning.specs.Routing.{membersOf, triedFor, tried}
 use Rattle.meaning.specs.LabelBytes.{labelsOf, isLabel}
 use Rattle.meaning.specs.Written.{stepBytes, patternBytes}
-use Rattle.meaning.specs.Calls.{judged, fairTable, isSubscription, subscription, sheetNumber, documentNumber, tableNumber, matchesAnswer, withRoom, after, mergeWriting, mergeAnswer, labelNumber}
+use Rattle.meaning.specs.Calls.{judged, fairTable, isSubscription, subscription, sheetNumber, documentNumber, tableNumber}
+use Rattle.meaning.specs.Calls.{matchesAnswer, withRoom, after, mergeWriting, mergeAnswer, labelNumber}
 use Rattle.meaning.specs.Given.{Given, refusal, gives, byNumber, RouteValues, tabledGiven}
 use Rattle.meaning.specs.Printing.{ascii}
 use Rattle.meaning.specs.RoseBench.{sheetR, slash, slashes, a, b, c, star}

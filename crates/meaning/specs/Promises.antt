@@ -6,7 +6,8 @@ use mathlib.Core.Bool.{Bool}
 use mathlib.Core.List.{List}
 use Rattle.meaning.specs.Given.{Given, askedGiven, MergeValues, mergedGiven, BuildValues, builtGiven, routedGiven, RouteValues, tabledGiven}
 use Rattle.meaning.specs.Routing.{shedsIn, lowestShed}
-use Rattle.meaning.specs.Calls.{sheetNumber, documentNumber, tableNumber, matchesAnswer, coversAnswer, withRoom, after, mergeWriting, mergeAnswer, buildWriting, buildAnswer, plainAnswer, tableAnswer, labelNumber, labelPart}
+use Rattle.meaning.specs.Calls.{sheetNumber, documentNumber, tableNumber, matchesAnswer, coversAnswer, withRoom, after, mergeWriting}
+use Rattle.meaning.specs.Calls.{mergeAnswer, buildWriting, buildAnswer, plainAnswer, tableAnswer, labelNumber, labelPart}
 
 -- ---- the three checks
 

@@ -6,7 +6,8 @@ use lib.Dec.{eqb, leb, ltb}
 use lib.ListN.{length}
 use Rattle.base.specs.Choice.{pick}
 use Rattle.base.specs.Lists.{some}
-use Rattle.meaning.specs.Numbers.{labelLength, labelTwice, countOutside, parentRule, axisUnknown, labelOutside, secondNear, longestLabel, mostLabels, mostPatterns, mostSteps, mostNodes, mostEntries}
+use Rattle.meaning.specs.Numbers.{labelLength, labelTwice, countOutside, parentRule, axisUnknown, labelOutside, secondNear}
+use Rattle.meaning.specs.Numbers.{longestLabel, mostLabels, mostPatterns, mostSteps, mostNodes, mostEntries}
 use Rattle.meaning.specs.Reader.{Reader, _>>=_, _>>_, give, unless, byte, bytes, number, repeat, end}
 use Rattle.meaning.specs.Forest.{Forest, forest}
 use Rattle.meaning.specs.declared.Step.{Step}

@@ -3,8 +3,10 @@ use Prim.Native.Nat.{ℕ}
 use mathlib.Core.Path.{_≡_, sym, ap, _∙_}
 use mathlib.Core.Bool.{true≢false, false≢true}
 use mathlib.Core.List.{List}
-use Rattle.meaning.specs.Given.{Given, refusal, gives, byNumber, askedGiven, MergeValues, mergedGiven, BuildValues, builtGiven, routedGiven, RouteValues, tabledGiven}
-use Rattle.meaning.specs.Promises.{SheetCheckGives, DocumentCheckGives, TableCheckGives, MatchesGives, CoversGives, MergeGives, BuildGives, PlainRouteGives, TableRouteGives, ShedsGives, LowestShedGives, LabelNumberGives, LabelBytesGives}
+use Rattle.meaning.specs.Given.{Given, refusal, gives, byNumber, askedGiven, MergeValues, mergedGiven}
+use Rattle.meaning.specs.Given.{BuildValues, builtGiven, routedGiven, RouteValues, tabledGiven}
+use Rattle.meaning.specs.Promises.{SheetCheckGives, DocumentCheckGives, TableCheckGives, MatchesGives, CoversGives, MergeGives, BuildGives}
+use Rattle.meaning.specs.Promises.{PlainRouteGives, TableRouteGives, ShedsGives, LowestShedGives, LabelNumberGives, LabelBytesGives}
 use Rattle.meaning.specs.declared.Asked.{Asked}
 use Rattle.meaning.specs.declared.Asked.the-variants as asked
 use Rattle.meaning.specs.declared.Merged.{Merged}

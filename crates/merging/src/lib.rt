@@ -74,7 +74,8 @@ fn build_at(
     back: &mut [u8; PAIRS],
 ) -> Marked
     requires { ⌜ Known p q (now memo) (now there) (now back) × (v ≤ p .count) × (w ≤ q .count) × (own ≤ 1) ⌝ }
-    ensures { λ r. ⌜ Built own r (through mostSteps (childrenOf (stepsIn p) v) true own (childrenOf (stepsIn q) w) nothing) × Known p q (now (memo .exit)) (now (there .exit)) (now (back .exit)) ⌝ }
+    ensures { λ r. ⌜ Built own r (through mostSteps (childrenOf (stepsIn p) v) true own (childrenOf (stepsIn q) w) nothing)
+        × Known p q (now (memo .exit)) (now (there .exit)) (now (back .exit)) ⌝ }
 {
     let mut b = Marked {
         pattern: no_steps(),
@@ -106,8 +107,10 @@ fn across(
     there: &mut [u8; PAIRS],
     back: &mut [u8; PAIRS],
 ) -> Marked
-    requires { ⌜ Known p q (now memo) (now there) (now back) × (1 ≤ v) × (v ≤ p .count) × (w ≤ q .count) × WellFormed (built .pattern) × (own + built .pattern .count ≤ mostSteps) ⌝ }
-    ensures { λ r. ⌜ Built own r (acrossOf own direct (stepsIn p) v (childrenOf (stepsIn q) w) (buildingOf built)) × Known p q (now (memo .exit)) (now (there .exit)) (now (back .exit)) ⌝ }
+    requires { ⌜ Known p q (now memo) (now there) (now back) × (1 ≤ v) × (v ≤ p .count) × (w ≤ q .count)
+        × WellFormed (built .pattern) × (own + built .pattern .count ≤ mostSteps) ⌝ }
+    ensures { λ r. ⌜ Built own r (acrossOf own direct (stepsIn p) v (childrenOf (stepsIn q) w) (buildingOf built))
+        × Known p q (now (memo .exit)) (now (there .exit)) (now (back .exit)) ⌝ }
 {
     let mut b = built;
     let mut u = w;

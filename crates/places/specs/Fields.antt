@@ -15,7 +15,8 @@ use Rattle.base.specs.declared.Cur.{Cur}
 use Rattle.base.specs.declared.Cur.the-variants.{At, No}
 use Rattle.meaning.specs.Reader.{read, refused, Reader, _>>=_, _>>_, unless, byte, bytes, end, give, number}
 use Rattle.places.specs.Bytes.{pairAt, endPlace}
-use Rattle.places.specs.Answer.{answer, answer-pick, then-answer, then-give, then-byte, then-unless, then-bytes, then-end, passed, passed-on, pick-both, pick-either, pick-not}
+use Rattle.places.specs.Answer.{answer, answer-pick, then-answer, then-give, then-byte, then-unless, then-bytes}
+use Rattle.places.specs.Answer.{then-end, passed, passed-on, pick-both, pick-either, pick-not}
 use Rattle.places.specs.NumberRead.{numberIn, then-number, then-pair}
 use Rattle.places.specs.Section.{Section, judgedAs}
 

@@ -60,7 +60,8 @@ fn put_totals(
 // A line for an entry, beside a sheet s of so many subscriptions; the next place.
 fn put_entry(out: &mut [u8], at: usize, s: &[u8], e: Entry, subscriptions: usize) -> usize
     requires { ⌜ WellFormed (e .pattern) × (subscriptions ≤ mostPatterns) ⌝ }
-    ensures { λ r. ⌜ written (now (out .exit)) r ≡ put (written (now (out .entry)) at) (entryText (labelsIn (now (s .entry))) subscriptions (entryOf e)) ⌝ }
+    ensures { λ r. ⌜ written (now (out .exit)) r
+        ≡ put (written (now (out .entry)) at) (entryText (labelsIn (now (s .entry))) subscriptions (entryOf e)) ⌝ }
 {
     let mut next = put_members(out, at, e.members, subscriptions);
     next = put_bytes(out, next, b": ");
@@ -71,7 +72,8 @@ fn put_entry(out: &mut [u8], at: usize, s: &[u8], e: Entry, subscriptions: usize
 // A table: the totals, and a line for each entry; the next place.
 pub fn put_table(out: &mut [u8], s: &[u8], t: Table, subscriptions: usize, rounds: usize) -> usize
     requires { ⌜ WellFormedTable t × (subscriptions ≤ mostPatterns) ⌝ }
-    ensures { λ r. ⌜ written (now (out .exit)) r ≡ put (written (now (out .entry)) 0) (textOf (labelsIn (now (s .entry))) subscriptions (builtTable t rounds)) ⌝ }
+    ensures { λ r. ⌜ written (now (out .exit)) r
+        ≡ put (written (now (out .entry)) 0) (textOf (labelsIn (now (s .entry))) subscriptions (builtTable t rounds)) ⌝ }
 {
     let steps = steps_together(t);
     let mut next = put_totals(out, 0, subscriptions, t.count, steps, rounds);

@@ -17,7 +17,8 @@ ghost use Rattle.texts.specs.PutText.{written, put};
 // The table that is built for a limit from a sheet that was judged, as text.
 fn put_built(s: &[u8], limit: u16, out: &mut [u8]) -> usize
     requires { ⌜ SheetStands (now s) ⌝ }
-    ensures { λ r. ⌜ written (now (out .exit)) r ≡ put (written (now (out .entry)) 0) (tableText (sheetAt (now (s .entry))) (build limit (sheetAt (now (s .entry)) .patterns))) ⌝ }
+    ensures { λ r. ⌜ written (now (out .exit)) r
+        ≡ put (written (now (out .entry)) 0) (tableText (sheetAt (now (s .entry))) (build limit (sheetAt (now (s .entry)) .patterns))) ⌝ }
 {
     let v = subscriptions_in(s);
     let made = build(limit, first_entries(s, v));

@@ -67,7 +67,8 @@ fn several_below(p: Pattern, v: usize) -> bool
 // The branches below step v of a pattern, or below its root, which is 0: several stand in brackets; the next place.
 fn put_below(out: &mut [u8], at: usize, s: &[u8], p: Pattern, v: usize) -> usize
     requires { ⌜ WellFormed p ⌝ }
-    ensures { λ r. ⌜ written (now (out .exit)) r ≡ put (written (now (out .entry)) at) (belowText (labelsIn (now (s .entry))) (childrenOf (stepsIn p) v)) ⌝ }
+    ensures { λ r. ⌜ written (now (out .exit)) r
+        ≡ put (written (now (out .entry)) at) (belowText (labelsIn (now (s .entry))) (childrenOf (stepsIn p) v)) ⌝ }
 {
     let many = several_below(p, v);
     let mut next = at;

@@ -60,7 +60,8 @@ fn put_entry(out: &mut [u8], at: usize, e: Entry) -> usize
 // Writes a pattern where there is room for it, and says whether there was.
 pub fn write_pattern(out: &mut [u8], p: Pattern) -> bool
     requires { ⌜ WellFormed p ⌝ }
-    ensures { λ r. ⌜ (r ≡ leb (length (patternBytes (patternOf p))) (length (now (out .entry)))) × (now (out .exit) ≡ writtenOver (now (out .entry)) (patternBytes (patternOf p))) ⌝ }
+    ensures { λ r. ⌜ (r ≡ leb (length (patternBytes (patternOf p))) (length (now (out .entry))))
+        × (now (out .exit) ≡ writtenOver (now (out .entry)) (patternBytes (patternOf p))) ⌝ }
 {
     if pattern_length(p) > out.len() {
         return false;
@@ -101,7 +102,8 @@ fn put_table(out: &mut [u8], t: Table)
 // Writes a table where there is room for it, and says whether there was.
 pub fn write_table(out: &mut [u8], t: Table) -> bool
     requires { ⌜ WellFormedTable t ⌝ }
-    ensures { λ r. ⌜ (r ≡ leb (length (tableBytes (tableOf t))) (length (now (out .entry)))) × (now (out .exit) ≡ writtenOver (now (out .entry)) (tableBytes (tableOf t))) ⌝ }
+    ensures { λ r. ⌜ (r ≡ leb (length (tableBytes (tableOf t))) (length (now (out .entry))))
+        × (now (out .exit) ≡ writtenOver (now (out .entry)) (tableBytes (tableOf t))) ⌝ }
 {
     if table_length(t) > out.len() {
         return false;
