@@ -1,5 +1,5 @@
-// Reading documents beside a sheet: labels and nodes are judged by places in the lent bytes (specs/DocumentSection.antt), and what
-// that gives is what a document means.
+// Reading documents beside a sheet: labels and nodes are judged by places in the lent bytes (specs/DocumentSection.antt),
+// and what that gives is what a document means.
 use base::Cur;
 use labels::after_labels;
 use labels::labels;
