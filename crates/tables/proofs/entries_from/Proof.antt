@@ -1,48 +1,35 @@
 -- `tables::entries_from` meets its contract.
--- The invariant: what is left from here gives what all gives from the start; the measure: what is left.
-use mathlib.Core.Path.{_≡_, sym}
+-- The invariant: i entries are read, and the next one stands at x; the measure: what is left.
 use Prim.Native.Nat.{_-_}
-use denote.Ref.{now}
-use Rattle.base.specs.Loops.{run, run-starts, run-ends}
-use Rattle.places.specs.ReadingLoop.{reads-on, reads-fault}
+use Rattle.places.specs.ReadingLoop.{ReadSoFar, reading-starts, reads-on, reads-fault, all-read}
+use Rattle.places.specs.InTurn.{eachPlace}
+use Rattle.tables.specs.TableSection.{entrySection}
 use borrow.Author.Needs.{needs}
 use native.Mathlib.Omega.{arith}
 use Rattle.tables.proofs.entries_from.Statement.{statement}
 use Rattle.tables.proofs.entries_from.Tie as tie
-use Rattle.tables.specs.TableSection.{entrySection}
-use Rattle.places.specs.InTurn.{eachPlace}
 
 abbrev Inv-loop : tie.InvT-loop
-Inv-loop t known p n i₀ x₀ i x = run (eachPlace (entrySection t known)) (n - i) i x ≡ run (eachPlace (entrySection t known)) n 0 p
+Inv-loop t known p n i₀ x₀ i x = ReadSoFar (eachPlace (entrySection t known)) n p i x
 
 abbrev μ-loop : tie.MeasureT-loop
 μ-loop t known p n i₀ x₀ i x = n - i
 
-loop-holds : tie.Need-loop-holds Inv-loop μ-loop
-loop-holds c =
-    let a = c .before .args in
-    sym (run-starts (eachPlace (entrySection (now (a .t)) (a .known))) (a .n) 0 (a .p) (run (eachPlace (entrySection (now (a .t)) (a .known))) (a .n) 0 (a .p)))
-
 returns : tie.Need-returns Inv-loop μ-loop
 returns c =
-    let a = c .before .before .before .before .before .before .before .args in
-    let l = c .before .before .before .before .before .loop in
-    reads-fault (eachPlace (entrySection (now (a .t)) (a .known))) (a .n) (l .i) (l .x) _ (c .before .before .before .entry .result) (c .before .m .given .0 .0) (omega arith) (c .before .before .before .entry .ensures) (c .before .m .given .1) (l .inv)
+    let read = c .before .before .before in
+    reads-fault (read .before .before .loop .inv) (omega arith) (read .entry .ensures) (c .before .m .given .1)
 
 loop-again : tie.Need-loop-again Inv-loop μ-loop
 loop-again c =
-    let a = c .before .before .before .before .before .before .before .args in
-    let l = c .before .before .before .before .before .loop in
-    reads-on (eachPlace (entrySection (now (a .t)) (a .known))) (a .n) (l .i) (l .x) _ (c .before .before .before .entry .result) (c .before .y .given .0 .0) (omega arith) (c .before .before .before .entry .ensures) (c .before .y .given .1) (l .inv)
+    let read = c .before .before .before in
+    reads-on (read .before .before .loop .inv) (omega arith) (read .entry .ensures) (c .before .y .given .1)
 
 returns-2 : tie.Need-returns-2 Inv-loop μ-loop
-returns-2 c =
-    let a = c .before .before .before .args in
-    let l = c .before .loop in
-    run-ends (eachPlace (entrySection (now (a .t)) (a .known))) (a .n) (l .i) (l .x) _ (omega arith) (l .inv)
+returns-2 c = all-read (c .before .loop .inv) (omega arith)
 
 pub entries-from-spec : {M : Type 1} → statement M
 entries-from-spec =
     tie.close
-    (tie.spec Inv-loop μ-loop loop-holds (λ c κs. search needs) (λ c. search needs) (λ c. search needs) returns
+    (tie.spec Inv-loop μ-loop (λ c. reading-starts) (λ c κs. search needs) (λ c. search needs) (λ c. search needs) returns
     (λ c. omega arith) (λ c. omega arith) loop-again returns-2)
