@@ -110,9 +110,10 @@ pub bytes-at : (n : ℕ) (l : List ℕ) → bytes n l ≡ pick (leb n (length l)
 unfolding bytes repeat give byte _>>=_ go-on pick
 bytes-at zero l = rw (leb·zero (length l))
 bytes-at (suc n) [] = rw (leb·suc-zero n)
-bytes-at (suc n) (x ∷ l) = rw (leb·suc-suc n (length l)) (ap (λ (r : Reading (List ℕ)). go-on r (λ later. give (x ∷ later))) (bytes-at n l) ∙ go (leb n (length l)))
+bytes-at (suc n) (x ∷ l) = rw (leb·suc-suc n (length l), bytes-at n l) (go (leb n (length l)))
   where
-    go : (b : Bool) → go-on (pick b (read (take n l) (drop n l)) (refused 1)) (λ later. give (x ∷ later)) ≡ pick b (read (x ∷ take n l) (drop n l)) (refused 1)
+    go : (b : Bool) → go-on (pick b (read (take n l) (drop n l)) (refused 1)) (λ later. give (x ∷ later))
+        ≡ pick b (read (x ∷ take n l) (drop n l)) (refused 1)
     go true = refl
     go false = refl
 
@@ -149,7 +150,7 @@ module _ {B : Type 0} (s : List ℕ) where
   pub then-bytes : (n at : ℕ) (next : List ℕ → Reader B)
       → _>>=_ (bytes n) next (drop at s) ≡ pick (leb n (length s - at)) (next (take n (drop at s)) (drop (at + n) s)) (refused 1)
   unfolding _>>=_ go-on pick
-  then-bytes n at next = ap (λ (r : Reading (List ℕ)). go-on r next) (bytes-at n (drop at s)) ∙ rw (length-drop at s, drop-drop n at s) (go (leb n (length s - at)))
+  then-bytes n at next = rw (bytes-at n (drop at s), length-drop at s, drop-drop n at s) (go (leb n (length s - at)))
     where
       go : (b : Bool) → go-on (pick b (read (take n (drop at s)) (drop (at + n) s)) (refused 1)) next
           ≡ pick b (next (take n (drop at s)) (drop (at + n) s)) (refused 1)

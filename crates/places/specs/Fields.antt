@@ -15,8 +15,8 @@ use Rattle.base.specs.declared.Cur.{Cur}
 use Rattle.base.specs.declared.Cur.the-variants.{At, No}
 use Rattle.meaning.specs.Reader.{read, refused, Reader, _>>=_, _>>_, unless, byte, bytes, end, give, number}
 use Rattle.places.specs.Bytes.{pairAt, endPlace}
-use Rattle.places.specs.Answer.{answer, answer-pick, then-answer, then-give, then-byte, then-unless, then-bytes}
-use Rattle.places.specs.Answer.{then-end, passed, passed-on, pick-both, pick-either, pick-not}
+use Rattle.places.specs.Answer.{answer, answer-pick, then-answer, then-give, then-byte, then-unless, then-bytes, then-end}
+use Rattle.places.specs.Answer.{passed, passed-on, pick-both, pick-either, pick-not}
 use Rattle.places.specs.NumberRead.{numberIn, then-number, then-pair}
 use Rattle.places.specs.Section.{Section, judgedAs}
 
@@ -65,7 +65,14 @@ module _ {A : Type 0} {s : List ℕ} where
 module _ {A : Type 0} {s : List ℕ} {x : ℕ} where
   -- nothing more is read
   abbrev pub given : (a : A) → Section s (give a) x
-  given a = record { value = a; after = x; place = At x; reads = given-reads s a x; leads = λ y e. same-place x y e; within = λ y h e. subst (λ z. z ≤ length s) (sym (same-place x y e)) h }
+  given a = record {
+    value = a;
+    after = x;
+    place = At x;
+    reads = given-reads s a x;
+    leads = same-place x;
+    within = λ y h e. rw (same-place x y e) h;
+  }
 
   -- the end
   abbrev pub endThen : (a : A) → Section s (_>>_ end (give a)) x

@@ -32,7 +32,8 @@ module _ {A S : Type 0} (s : List ℕ) (many : ℕ → S → Reader (List A)) (o
   in-turn zero i x t h = ap (λ (r : Reader (List A)). r (drop x s)) (none t)
   in-turn (suc n) i x t h =
       ap (λ (r : Reader (List A)). r (drop x s)) (more n t)
-      ∙ rw (reads i x t h) (then-answer s (here x) (standing here next x (suc n)) (f i x) _ (λ y. run f n (i + 1) y) (λ y e. turn y (leads i x y e) (in-turn n (i + 1) y (keep t (here x)) (told i x y t h e))))
+      ∙ rw (reads i x t h) (then-answer s (here x) _ (f i x) _ (run f n (i + 1))
+      (λ y e. turn y (leads i x y e) (in-turn n (i + 1) y (keep t (here x)) (told i x y t h e))))
     where
       turn : (y : ℕ) → y ≡ next x → many n (keep t (here x)) (drop y s) ≡ answer s (standing here next y n) (run f n (i + 1) y)
           → go-on (many n (keep t (here x)) (drop y s)) (λ later. give (here x ∷ later)) ≡ answer s (standing here next x (suc n)) (run f n (i + 1) y)
@@ -70,5 +71,6 @@ module _ {A : Type 0} {s : List ℕ} {r : Reader A} (k : (x : ℕ) → Section s
   -- n of them
   abbrev pub repeated : (n x : ℕ) → Section s (repeat n r) x
   repeated n x =
-      inTurn s (λ m t. repeat m r) (λ t. r) (λ t a. t) (λ t. repeat-none r) (λ m t. repeat-more r m) (λ y. k y .value) (λ y. k y .after) eachPlace (λ i y t. Unit {0})
+      inTurn s (λ m t. repeat m r) (λ t. r) (λ t a. t) (λ t. repeat-none r) (λ m t. repeat-more r m)
+      (λ y. k y .value) (λ y. k y .after) eachPlace (λ i y t. Unit {0})
       (λ i y t h. k y .reads) (λ i y. k y .leads) (λ i y. k y .within) (λ i y z t h e. tt) n x (tt {0}) tt

@@ -23,9 +23,9 @@ module _ (s : List ℕ) where
   -- there are n + 1 bytes if there is one and then n
   one-and-more : (n at : ℕ) → (ltb at (length s) && leb n (length s - (at + 1))) ≡ leb (suc n) (length s - at)
   one-and-more n at =
-      both-ways (ltb at (length s) && leb n (length s - (at + 1))) (leb (suc n) (length s - at))
-      (λ h. both (ltb-true at (length s) (and-first (ltb at (length s)) (leb n (length s - (at + 1))) h)) (leb-true n (length s - (at + 1)) (and-second (ltb at (length s)) (leb n (length s - (at + 1))) h)))
-      (λ h. and-both (ltb at (length s)) (leb n (length s - (at + 1))) (lt-ltb at (length s) (first (leb-true (suc n) (length s - at) h))) (le-leb n (length s - (at + 1)) (second (leb-true (suc n) (length s - at) h))))
+      both-ways _ _
+      (λ h. both (ltb-true _ _ (and-first _ _ h)) (leb-true _ _ (and-second (ltb at (length s)) _ h)))
+      (λ h. and-both _ _ (lt-ltb _ _ (first (leb-true _ _ h))) (le-leb _ _ (second (leb-true _ _ h))))
     where
       both : at < length s → n ≤ length s - (at + 1) → leb (suc n) (length s - at) ≡ true
       both a b = le-leb (suc n) (length s - at) (omega arith)

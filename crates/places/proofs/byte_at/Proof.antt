@@ -1,4 +1,4 @@
--- `reading::byte_at` meets its contract.
+-- `places::byte_at` meets its contract.
 use mathlib.Core.Path.{refl, sym}
 use native.Mathlib.Omega.{arith}
 use borrow.Author.Needs.{needs}

@@ -1,4 +1,4 @@
--- `reading::end` meets its contract.
+-- `places::end` meets its contract.
 use Rattle.base.specs.Choice.{picks}
 use Rattle.places.specs.Bytes.{endPlace}
 use Rattle.places.proofs.end.Statement.{statement}

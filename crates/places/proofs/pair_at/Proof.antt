@@ -1,4 +1,4 @@
--- `reading::pair_at` meets its contract.
+-- `places::pair_at` meets its contract.
 use denote.Ref.{now}
 use Rattle.places.specs.NumberRead.{pair-past}
 use Rattle.places.specs.Bytes.{pairAt}
