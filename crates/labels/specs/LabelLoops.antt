@@ -26,22 +26,35 @@ unequal-lengths (x ∷ a) (y ∷ b) h = go (eqb x y) (unequal-lengths a b (λ e.
     go true e = e
     go false e = refl
 
-module _ (a b : List ℕ) (i : ℕ) (whole : Bool) where
+-- labels of one length, i bytes passed: the bytes that are left decide whether they are the same
+pub record SameSoFar (a b : List ℕ) (i : ℕ) : Type 0 where
+  pub long : length a ≡ length b
+  pub left : sameLabel (drop i a) (drop i b) ≡ sameLabel a b
+
+module _ {a b : List ℕ} {i : ℕ} (so-far : SameSoFar a b i) where
   -- a byte differs: the labels do
-  pub bytes-differ : i < length a → i < length b → (getD a i 0 ≡ getD b i 0 → ⊥) → sameLabel (drop i a) (drop i b) ≡ whole → false ≡ whole
+  pub bytes-differ : i < length a → (getD a i 0 ≡ getD b i 0 → ⊥) → false ≡ sameLabel a b
   unfolding sameLabel
-  bytes-differ h k d p = sym (rw (drop-cons a i 0 h, drop-cons b i 0 k, ne-eqb (getD a i 0) (getD b i 0) d)) ∙ p
+  bytes-differ h d =
+      let k : i < length b = omega arith in
+      sym (rw (drop-cons a i 0 h, drop-cons b i 0 k, ne-eqb (getD a i 0) (getD b i 0) d)) ∙ so-far .left
 
   -- a byte agrees: the rest decides
-  pub bytes-agree : i < length a → i < length b → getD a i 0 ≡ getD b i 0 → sameLabel (drop i a) (drop i b) ≡ whole
-      → sameLabel (drop (i + 1) a) (drop (i + 1) b) ≡ whole
+  pub bytes-agree : i < length a → getD a i 0 ≡ getD b i 0 → SameSoFar a b (i + 1)
   unfolding sameLabel
-  bytes-agree h k e p = rw add-one (sym (rw (drop-cons a i 0 h, drop-cons b i 0 k, eq-eqb (getD a i 0) (getD b i 0) e)) ∙ p)
+  bytes-agree h e =
+      let k : i < length b = omega arith in
+      record {
+        long = so-far .long;
+        left = rw add-one (sym (rw (drop-cons a i 0 h, drop-cons b i 0 k, eq-eqb (getD a i 0) (getD b i 0) e)) ∙ so-far .left);
+      }
 
   -- no byte is left: they are the same
-  pub bytes-end : length a ≤ i → length b ≤ i → sameLabel (drop i a) (drop i b) ≡ whole → true ≡ whole
+  pub bytes-end : length a ≤ i → true ≡ sameLabel a b
   unfolding sameLabel
-  bytes-end h k p = sym (rw (drop-of-length-le a h, drop-of-length-le b k)) ∙ p
+  bytes-end h =
+      let k : length b ≤ i = omega arith in
+      sym (rw (drop-of-length-le a h, drop-of-length-le b k)) ∙ so-far .left
 
 -- ---- the bytes of a label, as a part
 
@@ -54,7 +67,9 @@ module _ (s : List ℕ) (p : ℕ) where
   -- a length that reaches past the end takes what there is
   pub text-short : (r : ℕ) → r ≡ getD s p 0 → length s - (p + 1) < r → take (length s - (p + 1)) (drop (p + 1) s) ≡ textAt s p
   unfolding textAt
-  text-short r e h = take-all (length s - (p + 1)) (drop (p + 1) s) (simp length-drop (omega arith)) ∙ sym (take-all (getD s p 0) (drop (p + 1) s) (simp length-drop (omega arith)))
+  text-short r e h =
+      let long = length-drop (p + 1) s in
+      take-all (length s - (p + 1)) (drop (p + 1) s) (omega arith) ∙ sym (take-all (getD s p 0) (drop (p + 1) s) (omega arith))
 
   -- otherwise it is as long as its length says
   pub text-whole : (r : ℕ) → r ≡ getD s p 0 → take (p + 1 + r - (p + 1)) (drop (p + 1) s) ≡ textAt s p

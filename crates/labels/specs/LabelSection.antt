@@ -28,7 +28,7 @@ module _ (s : List ℕ) (k : ℕ) (d : List ℕ) (p : ℕ) where
       byteThen λ long.
       unlessBoth labelLength (leb 1 long) (leb long longestLabel) (
       bytesThen long λ text.
-      unlessEither labelTwice (some (sameLabel text) (textsAt s 1 k)) (some (sameLabel text) (textsAt d p i)) (some-append (sameLabel text) (textsAt s 1 k) (textsAt d p i)) (
+      unlessEither labelTwice (some (sameLabel text) (textsAt s 1 k)) (some (sameLabel text) (textsAt d p i)) (some-append _ _ _) (
       given text))
 
   abbrev pub labelPlace : ℕ → ℕ → Cur
@@ -56,7 +56,7 @@ module _ (s : List ℕ) (k : ℕ) (d : List ℕ) (p : ℕ) where
   unfolding textsAt
   labels-told i x y t h e = record {
     place = rw (add-one i) (label-leads i x y e ∙ ap (afterLabel d) (h .place) ∙ sym (placeAfter-last (afterLabel d) p i));
-    before = rw (h .before, h .place, add-one i) (append-assoc (textsAt s 1 k) (textsAt d p i) _ ∙ ap (λ (l : List (List ℕ)). textsAt s 1 k ++ l) (standing-last (textAt d) (afterLabel d) p i));
+    before = rw (h .before, h .place, add-one i) (append-assoc (textsAt s 1 k) _ _ ∙ ap (_++_ (textsAt s 1 k)) (standing-last (textAt d) (afterLabel d) p i));
   }
 
   -- n labels from the place p on

@@ -1,4 +1,4 @@
--- `reading::labels::after_label` meets its contract.
+-- `labels::after_label` meets its contract.
 use native.Mathlib.Omega.{arith}
 use Rattle.base.specs.Choice.{picks}
 use Rattle.labels.specs.LabelPlaces.{afterLabel}

@@ -1,11 +1,11 @@
--- `reading::labels::after_labels` meets its contract.
+-- `labels::after_labels` meets its contract.
 -- The invariant: what is left from here gives what all gives from the start; the measure: what is left.
 use mathlib.Core.Path.{_≡_}
 use Prim.Native.Nat.{_+_, _*_, _-_, _≤_}
-use denote.Ref.{now}
-use Rattle.base.specs.Standing.{placeAfter, place-starts, place-goes-on, place-ends}
+use Rattle.base.specs.Standing.{placeAfter, place-goes-on, place-ends}
 use Rattle.labels.specs.LabelPlaces.{afterLabel}
 use borrow.Author.Needs.{needs}
+use native.Mathlib.Nat.{sub-zero}
 use native.Mathlib.Omega.{arith}
 use Rattle.labels.proofs.after_labels.Statement.{statement}
 use Rattle.labels.proofs.after_labels.Tie as tie
@@ -17,21 +17,17 @@ abbrev μ-loop : tie.MeasureT-loop
 μ-loop s p n i₀ x₀ i x = n - i
 
 loop-holds : tie.Need-loop-holds Inv-loop μ-loop
-loop-holds c =
-    let a = c .before .args in
-    (omega arith, omega arith, place-starts (afterLabel (now (a .s))) (a .n) 0 (a .p) (placeAfter (afterLabel (now (a .s))) (a .p) (a .n)))
+loop-holds c = (omega arith, omega arith, rw sub-zero)
 
 loop-again : tie.Need-loop-again Inv-loop μ-loop
 loop-again c =
-    let a = c .before .before .before .before .args in
     let l = c .before .before .loop in
-    (omega arith, omega arith, place-goes-on (afterLabel (now (a .s))) (a .n) (l .i) (l .x) _ (c .after-label .result) (omega arith) (c .after-label .ensures .0) (l .inv .2))
+    (omega arith, omega arith, place-goes-on _ _ (l .i) (l .x) _ _ (omega arith) (c .after-label .ensures .0) (l .inv .2))
 
 returns : tie.Need-returns Inv-loop μ-loop
 returns c =
-    let a = c .before .before .before .args in
     let l = c .before .loop in
-    (place-ends (afterLabel (now (a .s))) (a .n) (l .i) (l .x) _ (omega arith) (l .inv .2), omega arith)
+    (place-ends _ _ (l .i) (l .x) _ (omega arith) (l .inv .2), omega arith)
 
 pub after-labels-spec : {M : Type 1} → statement M
 after-labels-spec =

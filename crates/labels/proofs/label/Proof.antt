@@ -1,4 +1,4 @@
--- `reading::labels::label` meets its contract.
+-- `labels::label` meets its contract.
 use Prim.Native.Nat.{_<_}
 use Rattle.base.specs.Choice.{picks}
 use Rattle.labels.specs.LabelPlaces.{textAt}
