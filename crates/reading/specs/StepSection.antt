@@ -122,9 +122,12 @@ after-place p x k h = omega arith
 
 module _ (s : List ℕ) (known p : ℕ) where
   -- the path upwards from the last of the k steps that were read
+  abbrev pub upwards : ℕ → List ℕ
+  upwards k = pathAfter 1 (0 ∷ []) (stepsAt s p k)
+
   pub record PathUp (k : ℕ) : Type 0 where
-    pub way : WayUp s p k (pathAfter 1 (0 ∷ []) (stepsAt s p k))
-    pub short : length (pathAfter 1 (0 ∷ []) (stepsAt s p k)) ≤ k + 1
+    pub way : WayUp s p k (upwards k)
+    pub short : length (upwards k) ≤ k + 1
 
   -- before the first step it is the root alone
   pub start : PathUp 0
@@ -139,18 +142,22 @@ module _ (s : List ℕ) (known p : ℕ) where
   -- a step that was judged makes the path longer
   next : (k x : ℕ) → x ≡ p + 3 * k → PathUp k → climbs s p (getD s x 0) (k + 1) k ≡ true → PathUp (k + 1)
   unfolding stepsAt stepAtPlace
-  next k x h w m = record { way = rw longer (above {c = k + 1} (λ z. absurd (omega arith)) up); short = rw longer (omega (arith, length-upFrom (getD s x 0) (pathAfter 1 (0 ∷ []) (stepsAt s p k)), w .short)) }
+  next k x h w m = record {
+    way = rw longer (above {c = k + 1} (λ z. absurd (omega arith)) up);
+    short = rw longer (omega (arith, length-upFrom (getD s x 0) (upwards k), w .short));
+  }
     where
       there : placeAfter afterStep p k ≡ x
       there = step-place p k ∙ sym h
 
-      longer : pathAfter 1 (0 ∷ []) (stepsAt s p (k + 1)) ≡ (k + 1) ∷ upFrom (getD s x 0) (pathAfter 1 (0 ∷ []) (stepsAt s p k))
+      longer : upwards (k + 1) ≡ (k + 1) ∷ upFrom (getD s x 0) (upwards k)
       longer =
-          let all : stepsAt s p k ++ (stepAtPlace s x ∷ []) ≡ stepsAt s p (k + 1) = rw (add-one k) (rw there at (standing-last (stepAtPlace s) afterStep p k)) in
-          let long : 1 + length (stepsAt s p k) ≡ k + 1 = omega (arith, length-standing (stepAtPlace s) afterStep p k) in
-          sym (ap (pathAfter 1 (0 ∷ [])) all) ∙ path-after 1 (0 ∷ []) (stepsAt s p k) (stepAtPlace s x) ∙ ap (λ (n : ℕ). n ∷ upFrom (getD s x 0) (pathAfter 1 (0 ∷ []) (stepsAt s p k))) long
+          let before = stepsAt s p k in
+          let all : before ++ (stepAtPlace s x ∷ []) ≡ stepsAt s p (k + 1) = rw (add-one k) (rw there at (standing-last (stepAtPlace s) afterStep p k)) in
+          let long : 1 + length before ≡ k + 1 = omega (arith, length-standing (stepAtPlace s) afterStep p k) in
+          sym (ap (pathAfter 1 (0 ∷ [])) all) ∙ path-after 1 (0 ∷ []) before (stepAtPlace s x) ∙ rw long
 
-      up : WayUp s p (getD s (p + 3 * (k + 1 - 1)) 0) (upFrom (getD s x 0) (pathAfter 1 (0 ∷ []) (stepsAt s p k)))
+      up : WayUp s p (getD s (p + 3 * (k + 1 - 1)) 0) (upFrom (getD s x 0) (upwards k))
       up =
           let e : x ≡ p + 3 * (k + 1 - 1) = omega arith in
           rw (← e) (path-from s p (getD s x 0) (w .way) (sym (climbs-path s p (getD s x 0) (k + 1) (w .way) (w .short)) ∙ m))
