@@ -41,32 +41,32 @@ module _ (s d : List ℕ) (n : ℕ) where
   -- the number of a label: whether it exists
   pub number-there : (x : ℕ) → sheetDocumentPlace s d ≡ At x → 1 ≤ n → n ≤ getD s 0 0 + getD d 0 0 → 0 ≡ labelNumber s d n
   unfolding labelNumber isLabel pick
-  number-there x h a b = sym (both-read s d (λ m. m) (λ sh dc. pick (isLabel (labelsOf sh dc) n) 0 11) x h ∙ rw (labels-counted, le-leb 1 n a, le-leb n (getD s 0 0 + getD d 0 0) b))
+  number-there x h a b = sym (both-read s d _ _ x h ∙ rw (labels-counted, le-leb 1 n a, le-leb n (getD s 0 0 + getD d 0 0) b))
 
   -- 0 is no label
   pub number-zero : (x : ℕ) → sheetDocumentPlace s d ≡ At x → n < 1 → 11 ≡ labelNumber s d n
   unfolding labelNumber isLabel pick
-  number-zero x h a = sym (both-read s d (λ m. m) (λ sh dc. pick (isLabel (labelsOf sh dc) n) 0 11) x h ∙ rw (lt-leb 1 n a))
+  number-zero x h a = sym (both-read s d _ _ x h ∙ rw (lt-leb 1 n a))
 
   -- nor is a number over S + D
   pub number-over : (x : ℕ) → sheetDocumentPlace s d ≡ At x → 1 ≤ n → getD s 0 0 + getD d 0 0 < n → 11 ≡ labelNumber s d n
   unfolding labelNumber isLabel pick
-  number-over x h a b = sym (both-read s d (λ m. m) (λ sh dc. pick (isLabel (labelsOf sh dc) n) 0 11) x h ∙ rw (labels-counted, le-leb 1 n a, lt-leb n (getD s 0 0 + getD d 0 0) b))
+  number-over x h a b = sym (both-read s d _ _ x h ∙ rw (labels-counted, le-leb 1 n a, lt-leb n (getD s 0 0 + getD d 0 0) b))
 
   -- a refusal gives its own number
   pub number-refused : (m : ℕ) → sheetDocumentPlace s d ≡ No m → m ≡ labelNumber s d n
   unfolding labelNumber
-  number-refused m h = sym (both-refused s d (λ k. k) (λ sh dc. pick (isLabel (labelsOf sh dc) n) 0 11) m h)
+  number-refused m h = sym (both-refused s d _ _ m h)
 
   -- the part of a label: empty on a refusal
   pub part-refused : (m : ℕ) → sheetDocumentPlace s d ≡ No m → [] ≡ labelPart s d n
   unfolding labelPart
-  part-refused m h = sym (both-refused s d (λ k. []) (λ sh dc. labelAt (labelsOf sh dc) n) m h)
+  part-refused m h = sym (both-refused s d _ _ m h)
 
   -- empty for 0
   pub part-zero : (x : ℕ) → sheetDocumentPlace s d ≡ At x → n < 1 → [] ≡ labelPart s d n
   unfolding labelPart labelAt
-  part-zero x h a = sym (both-read s d (λ k. []) (λ sh dc. labelAt (labelsOf sh dc) n) x h ∙ none n a)
+  part-zero x h a = sym (both-read s d _ _ x h ∙ none n a)
     where
       none : (k : ℕ) → k < 1 → labelAt (labelsOf (sheetAt s) (documentAt d)) k ≡ []
       none zero b = refl
@@ -82,8 +82,7 @@ module _ (s d : List ℕ) (n : ℕ) where
   told : (x : ℕ) → sheetDocumentPlace s d ≡ At x → 1 ≤ n → labelPart s d n ≡ getD (textsAt s 1 (getD s 0 0) ++ textsAt d 1 (getD d 0 0)) (n - 1) []
   unfolding labelPart labelsOf sheetAt documentAt
   told x h a =
-      both-read s d (λ k. []) (λ sh dc. labelAt (labelsOf sh dc) n) x h
-      ∙ counted-from-one (textsAt s 1 (getD s 0 0) ++ textsAt d 1 (getD d 0 0)) n a
+      both-read s d _ _ x h ∙ counted-from-one (textsAt s 1 (getD s 0 0) ++ textsAt d 1 (getD d 0 0)) n a
 
   -- from the sheet's section
   pub part-of-sheet : (x : ℕ) → sheetDocumentPlace s d ≡ At x → 1 ≤ n → n ≤ getD s 0 0 → textAt s (placeAfter (afterLabel s) 1 (n - 1)) ≡ labelPart s d n

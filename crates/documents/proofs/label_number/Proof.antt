@@ -1,6 +1,5 @@
 -- `documents::label_number` meets its contract.
 use native.Mathlib.Omega.{arith}
-use denote.Ref.{now}
 use mathlib.Core.Path.{sym, _∙_}
 use borrow.Author.Needs.{needs}
 use Rattle.documents.proofs.label_number.Statement.{statement}
@@ -9,23 +8,21 @@ use Rattle.documents.specs.LabelNumbers.{number-there, number-zero, numb
 
 returns : tie.Need-returns
 returns c =
-    let a = c .before .before .before .before .before .before .before .args in
-    number-zero (now (a .s)) (now (a .d)) (a .n) (c .before .before .x .given .0 .0) (sym (c .before .before .before .before .both .ensures) ∙ c .before .before .x .given .1) (omega arith)
+    let read = c .before .before in
+    number-zero _ _ _ _ (sym (read .before .before .both .ensures) ∙ read .x .given .1) (omega arith)
 
 returns-2 : tie.Need-returns-2
 returns-2 c =
-    let a = c .before .before .before .before .before .before .before .before .before .before .args in
-    number-over (now (a .s)) (now (a .d)) (a .n) (c .before .before .before .before .before .x .given .0 .0) (sym (c .before .before .before .before .before .before .before .both .ensures) ∙ c .before .before .before .before .before .x .given .1) (omega arith) (omega arith)
+    let read = c .before .before .before .before .before in
+    number-over _ _ _ _ (sym (read .before .before .both .ensures) ∙ read .x .given .1) (omega arith) (omega arith)
 
 returns-3 : tie.Need-returns-3
 returns-3 c =
-    let a = c .before .before .before .before .before .before .before .before .before .before .args in
-    number-there (now (a .s)) (now (a .d)) (a .n) (c .before .before .before .before .before .x .given .0 .0) (sym (c .before .before .before .before .before .before .before .both .ensures) ∙ c .before .before .before .before .before .x .given .1) (omega arith) (omega arith)
+    let read = c .before .before .before .before .before in
+    number-there _ _ _ _ (sym (read .before .before .both .ensures) ∙ read .x .given .1) (omega arith) (omega arith)
 
 returns-4 : tie.Need-returns-4
-returns-4 c =
-    let a = c .before .before .before .before .before .before .args in
-    number-refused (now (a .s)) (now (a .d)) (a .n) (c .before .m .given .0 .0) (sym (c .before .before .before .both .ensures) ∙ c .before .m .given .1)
+returns-4 c = number-refused _ _ _ _ (sym (c .before .before .before .both .ensures) ∙ c .before .m .given .1)
 
 pub label-number-spec : {M : Type 1} → statement M
 label-number-spec =
