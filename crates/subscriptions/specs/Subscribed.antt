@@ -24,11 +24,11 @@ pub record SubscriptionsStand (s : List ℕ) (v : Subscriptions) : Type 0 where
 -- so it is of a sheet that was judged
 pub subscriptions-stand : (s : List ℕ) (v : Subscriptions) → SheetStands s → v ≡ subscriptionsOf s → SubscriptionsStand s v
 subscriptions-stand s v stands e =
-    let all : v .count ≡ length (sheetAt s .patterns) = ap (λ (w : Subscriptions). w .count) e ∙ subscriptions-counted s (sheetAt s) (stands .left) (stands .was-read) in
+    let all : v .count ≡ length (sheetAt s .patterns) = rw e (subscriptions-counted s _ _ (stands .was-read)) in
     record {
-      few = omega (arith, all, sheet-read s (stands .left) (sheetAt s) (stands .was-read) .few);
+      few = omega (arith, sheet-read s _ _ (stands .was-read) .few);
       counted = all;
-      taken = λ i l. rw e (subscription-taken s (sheetAt s) (stands .left) (stands .was-read) i (omega (arith, all)));
+      taken = λ i l. rw e (subscription-taken s _ _ (stands .was-read) i (omega arith));
     }
 
 -- the pattern by value at the i-th place is that of subscription i, well formed

@@ -6,7 +6,6 @@ use native.Mathlib.Omega.{arith}
 use lib.ListN.{length, length-set}
 use mathlib.Core.Path.{_≡_, refl, _∙_}
 use Prim.Native.Nat.{_+_, _*_, _-_, _≤_}
-use denote.Ref.{now}
 use Rattle.base.specs.Standing.{FilledUpTo, fill-starts, fill-goes-on, fill-ends}
 use Rattle.subscriptions.proofs.pattern_places.Statement.{statement}
 use Rattle.subscriptions.proofs.pattern_places.Tie as tie
@@ -18,21 +17,20 @@ abbrev μ-loop : tie.MeasureT-loop
 μ-loop s p places₀ i₀ x₀ places i x = 64 - i
 
 loop-holds : tie.Need-loop-holds Inv-loop μ-loop
-loop-holds c = (refl, omega arith, omega arith, fill-starts itself (afterPattern (now (c .before .args .s))) (c .before .args .p) _)
+loop-holds c = (refl, omega arith, omega arith, fill-starts _ _ _ _)
 
 loop-again : tie.Need-loop-again Inv-loop μ-loop
 unfolding itself
 loop-again c =
-    let a = c .before .before .before .before .args in
     let l = c .before .before .loop in
-    (length-set (l .places) (l .i) (l .x) ∙ (l .inv .0), omega arith, omega arith, fill-goes-on itself (afterPattern (now (a .s))) (a .p) (l .places) (l .i) (l .x) (c .after-pattern .result) (l .x) (omega arith) refl (c .after-pattern .ensures .0) (l .inv .3))
+    let filled = fill-goes-on _ _ _ (l .places) (l .i) (l .x) _ (l .x) (omega arith) refl (c .after-pattern .ensures .0) (l .inv .3) in
+    (length-set (l .places) (l .i) (l .x) ∙ l .inv .0, omega arith, omega arith, filled)
 
 returns : tie.Need-returns Inv-loop μ-loop
 unfolding patternPlaces
 returns c =
-    let a = c .before .before .before .args in
     let l = c .before .loop in
-    fill-ends itself (afterPattern (now (a .s))) (a .p) (l .places) 64 (l .i) (l .x) (l .inv .0) (omega arith) (l .inv .3)
+    fill-ends _ _ _ (l .places) 64 (l .i) _ (l .inv .0) (omega arith) (l .inv .3)
 
 pub pattern-places-spec : {M : Type 1} → statement M
 pattern-places-spec =

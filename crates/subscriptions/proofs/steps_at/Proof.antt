@@ -5,7 +5,6 @@ use native.Mathlib.Omega.{arith}
 use lib.ListN.{length, length-set}
 use mathlib.Core.Path.{_≡_, refl, _∙_}
 use Prim.Native.Nat.{_+_, _*_, _-_, _≤_}
-use denote.Ref.{now}
 use Rattle.base.specs.Standing.{FilledUpTo, fill-starts, fill-goes-on, fill-ends}
 use Rattle.subscriptions.proofs.steps_at.Statement.{statement}
 use Rattle.subscriptions.proofs.steps_at.Tie as tie
@@ -17,21 +16,20 @@ abbrev μ-loop : tie.MeasureT-loop
 μ-loop s p steps₀ i₀ x₀ steps i x = 16 - i
 
 loop-holds : tie.Need-loop-holds Inv-loop μ-loop
-loop-holds c = (refl, omega arith, omega arith, fill-starts (stepAtPlace (now (c .before .args .s))) afterStep (c .before .args .p) _)
+loop-holds c = (refl, omega arith, omega arith, fill-starts _ _ _ _)
 
 loop-again : tie.Need-loop-again Inv-loop μ-loop
 unfolding afterStep
 loop-again c =
-    let a = c .before .before .before .before .args in
     let l = c .before .before .loop in
-    (length-set (l .steps) (l .i) (c .step-at .result) ∙ (l .inv .0), omega arith, omega arith, fill-goes-on (stepAtPlace (now (a .s))) afterStep (a .p) (l .steps) (l .i) (l .x) ((l .x) + 3) (c .step-at .result) (omega arith) (c .step-at .ensures) refl (l .inv .3))
+    let filled = fill-goes-on _ _ _ (l .steps) (l .i) (l .x) (l .x + 3) _ (omega arith) (c .step-at .ensures) refl (l .inv .3) in
+    (length-set (l .steps) (l .i) (c .step-at .result) ∙ l .inv .0, omega arith, omega arith, filled)
 
 returns : tie.Need-returns Inv-loop μ-loop
 unfolding stepsAt
 returns c =
-    let a = c .before .before .before .args in
     let l = c .before .loop in
-    fill-ends (stepAtPlace (now (a .s))) afterStep (a .p) (l .steps) 16 (l .i) (l .x) (l .inv .0) (omega arith) (l .inv .3)
+    fill-ends _ _ _ (l .steps) 16 (l .i) _ (l .inv .0) (omega arith) (l .inv .3)
 
 pub steps-at-spec : {M : Type 1} → statement M
 steps-at-spec =
