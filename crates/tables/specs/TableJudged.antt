@@ -62,7 +62,7 @@ module _ (s t : List ℕ) (y : ℕ) (h : tablePlace s t ≡ At y) where
       let x = placeAfter (afterEntry t) 1 i in
       let there : getD ((tableEntries t) .places) i 0 ≡ x = getD-standing itself (afterEntry t) 1 mostEntries i 0 (omega arith) in
       let which : getD (tableAt t) i d ≡ entryIn t x = getD-standing (entryIn t) (afterEntry t) 1 n i d b in
-      let was = run-at (eachPlace (entrySection t (getD s 0 0))) (afterEntry t) (λ j z. entrySection t (getD s 0 0) z .leads) n 0 1 (all-read .final) i (all-read .all-read) b in
+      let was = run-at (eachPlace (entrySection t (getD s 0 0))) _ (λ j z. entrySection t _ z .leads) n 0 1 _ i (all-read .all-read) b in
       let r = taken-sound t (getD s 0 0) (x + 8) (was .0) (passed (leb 8 (length t - x)) _ 1 (was .0) (was .1) .1) in
       rw (there, which) (ap (λ (p : Forest). made (numberIn t x 8) p) (r .0), r .1)
 

@@ -5,7 +5,6 @@ use native.Mathlib.Omega.{arith}
 use lib.ListN.{length, length-set}
 use mathlib.Core.Path.{_≡_, refl, _∙_}
 use Prim.Native.Nat.{_+_, _*_, _-_, _≤_}
-use denote.Ref.{now}
 use Rattle.base.specs.Standing.{FilledUpTo, fill-starts, fill-goes-on, fill-ends}
 use Rattle.tables.proofs.entry_places.Statement.{statement}
 use Rattle.tables.proofs.entry_places.Tie as tie
@@ -18,21 +17,20 @@ abbrev μ-loop : tie.MeasureT-loop
 μ-loop t places₀ i₀ x₀ places i x = 64 - i
 
 loop-holds : tie.Need-loop-holds Inv-loop μ-loop
-loop-holds c = (refl, omega arith, omega arith, fill-starts itself (afterEntry (now (c .before .args .t))) 1 _)
+loop-holds c = (refl, omega arith, omega arith, fill-starts _ _ _ _)
 
 loop-again : tie.Need-loop-again Inv-loop μ-loop
 unfolding itself afterEntry
 loop-again c =
-    let a = c .before .before .before .before .args in
     let l = c .before .before .loop in
-    (length-set (l .places) (l .i) (l .x) ∙ (l .inv .0), omega arith, omega arith, fill-goes-on itself (afterEntry (now (a .t))) 1 (l .places) (l .i) (l .x) (c .after-pattern .result) (l .x) (omega arith) refl (c .after-pattern .ensures .0) (l .inv .3))
+    let filled = fill-goes-on _ _ _ (l .places) (l .i) (l .x) _ (l .x) (omega arith) refl (c .after-pattern .ensures .0) (l .inv .3) in
+    (length-set (l .places) (l .i) (l .x) ∙ l .inv .0, omega arith, omega arith, filled)
 
 returns : tie.Need-returns Inv-loop μ-loop
 unfolding entryPlaces
 returns c =
-    let a = c .before .before .before .args in
     let l = c .before .loop in
-    fill-ends itself (afterEntry (now (a .t))) 1 (l .places) 64 (l .i) (l .x) (l .inv .0) (omega arith) (l .inv .3)
+    fill-ends _ _ _ (l .places) 64 (l .i) _ (l .inv .0) (omega arith) (l .inv .3)
 
 pub entry-places-spec : {M : Type 1} → statement M
 entry-places-spec =
