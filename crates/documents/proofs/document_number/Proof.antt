@@ -1,6 +1,5 @@
 -- `documents::document_number` meets its contract.
 use Rattle.places.specs.Bytes.{numberAt}
-use denote.Ref.{now}
 use mathlib.Core.Path.{sym, _∙_, ap}
 use borrow.Author.Needs.{needs}
 use Rattle.documents.proofs.document_number.Statement.{statement}
@@ -9,15 +8,11 @@ use Rattle.documents.specs.DocumentJudged.{document-number}
 
 returns : tie.Need-returns
 unfolding numberAt
-returns c =
-    let a = c .before .before .before .before .before .before .args in
-    sym (ap numberAt (c .before .x .given .1)) ∙ ap numberAt (c .before .before .before .both .ensures) ∙ document-number (now (a .s)) (now (a .d))
+returns c = ap numberAt (sym (c .before .x .given .1) ∙ c .before .before .before .both .ensures) ∙ document-number _ _
 
 returns-2 : tie.Need-returns-2
 unfolding numberAt
-returns-2 c =
-    let a = c .before .before .before .before .before .before .args in
-    sym (ap numberAt (c .before .m .given .1)) ∙ ap numberAt (c .before .before .before .both .ensures) ∙ document-number (now (a .s)) (now (a .d))
+returns-2 c = ap numberAt (sym (c .before .m .given .1) ∙ c .before .before .before .both .ensures) ∙ document-number _ _
 
 pub document-number-spec : {M : Type 1} → statement M
 document-number-spec =
