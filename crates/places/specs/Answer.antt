@@ -1,6 +1,6 @@
 -- What a reader gives, by the place that was reached in the bytes: the value and the bytes from there on, or the fault.
 use Prim.Native.Nat.{ℕ, zero, suc, _+_, _-_}
-use mathlib.Core.Path.{_≡_, refl, ap, _∙_}
+use mathlib.Core.Path.{_≡_, refl}
 use mathlib.Core.Bool.{Bool, true, false, not, _&&_, _||_}
 use mathlib.Core.List.{List, [], _∷_}
 use lib.Dec.{leb, ltb, leb·zero, leb·suc-zero, leb·suc-suc}

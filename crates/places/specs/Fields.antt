@@ -1,19 +1,18 @@
 -- The fields of a section, in the order of its reader: each is one line more of the section, and what stands there, how it is
 -- judged and that this is how it is read come of it.
-use Prim.Native.Nat.{ℕ, zero, suc, _+_, _-_, _≤_}
-use mathlib.Core.Path.{_≡_, refl, sym, ap, _∙_, subst}
-use mathlib.Core.Bool.{Bool, true, false, not, _&&_, _||_}
-use mathlib.Core.List.{List, [], _∷_}
+use Prim.Native.Nat.{ℕ, _+_, _-_, _≤_}
+use mathlib.Core.Path.{_≡_, refl, ap, _∙_}
+use mathlib.Core.Bool.{Bool, true, not, _&&_, _||_}
+use mathlib.Core.List.{List}
 use lib.Dec.{leb, ltb}
 use lib.ListN.{length, getD, take, drop}
 use native.Mathlib.Omega.{arith}
-use native.Mathlib.Nat.{add-zero}
 use borrow.Author.Tests.{ltb-true, leb-true}
 use Rattle.base.specs.Choice.{pick}
 use Rattle.base.specs.Loops.{andThen}
 use Rattle.base.specs.declared.Cur.{Cur}
 use Rattle.base.specs.declared.Cur.the-variants.{At, No}
-use Rattle.meaning.specs.Reader.{read, refused, Reader, _>>=_, _>>_, unless, byte, bytes, end, give, number}
+use Rattle.meaning.specs.Reader.{refused, Reader, _>>=_, _>>_, unless, byte, bytes, end, give, number}
 use Rattle.places.specs.Bytes.{pairAt, endPlace}
 use Rattle.places.specs.Answer.{answer, answer-pick, then-answer, then-give, then-byte, then-unless, then-bytes, then-end}
 use Rattle.places.specs.Answer.{passed, passed-on, pick-both, pick-either, pick-not}
@@ -115,9 +114,10 @@ module _ {A : Type 0} {s : List ℕ} {x : ℕ} where
   unlessNot n b k = judgedAs (pick b (No n) (k .place)) (unlessThen n (not b) k) (pick-not b (k .place) (No n))
 
   -- two tests that must fail, one after the other
-  abbrev pub unlessEither : (n : ℕ) {c : Bool} (a b : Bool) → c ≡ (a || b) → {next : Reader A} → Section s next x → Section s (_>>_ (unless n (not c)) next) x
+  abbrev pub unlessEither : (n : ℕ) {c : Bool} (a b : Bool) → c ≡ (a || b) → {next : Reader A} → Section s next x
+      → Section s (_>>_ (unless n (not c)) next) x
   unlessEither n {c = c} a b e k =
-      judgedAs (pick a (No n) (pick b (No n) (k .place))) (unlessNot n c k) (ap (λ (t : Bool). pick t (No n) (k .place)) e ∙ pick-either a b (No n) (k .place))
+      judgedAs (pick a (No n) (pick b (No n) (k .place))) (unlessNot n c k) (rw e (pick-either a b (No n) (k .place)))
 
 -- ---- a section, and what follows it
 

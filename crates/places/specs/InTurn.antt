@@ -1,18 +1,13 @@
 -- Things that are read one after the other: a section of n of them.
-use Prim.Native.Nat.{ℕ, zero, suc, _+_, _-_, _≤_}
-use mathlib.Core.Path.{_≡_, refl, sym, ap, _∙_, subst}
-use mathlib.Core.Bool.{Bool, true, false, not, _&&_, _||_}
+use Prim.Native.Nat.{ℕ, zero, suc, _+_, _≤_}
+use mathlib.Core.Path.{_≡_, refl, ap, _∙_}
 use mathlib.Core.List.{List, [], _∷_}
-use lib.Dec.{leb, ltb}
-use lib.ListN.{length, getD, take, drop}
-use native.Mathlib.Omega.{arith}
-use native.Mathlib.Nat.{add-zero}
-use borrow.Author.Tests.{ltb-true, leb-true}
+use lib.ListN.{length, drop}
 use Rattle.base.specs.Loops.{run}
 use Rattle.base.specs.Standing.{standing, placeAfter, run-leads, run-keeps}
 use Rattle.base.specs.declared.Cur.{Cur}
-use Rattle.base.specs.declared.Cur.the-variants.{At, No}
-use Rattle.meaning.specs.Reader.{read, Reader, go-on, _>>=_, _>>_, give, repeat}
+use Rattle.base.specs.declared.Cur.the-variants.{At}
+use Rattle.meaning.specs.Reader.{Reader, go-on, _>>=_, give, repeat}
 use Rattle.places.specs.Answer.{answer, then-answer, then-give}
 use Rattle.places.specs.Section.{Section}
 

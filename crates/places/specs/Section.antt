@@ -1,16 +1,11 @@
 -- A section of bytes: a reader at a place, what stands there, and how it is judged by places.
-use Prim.Native.Nat.{ℕ, zero, suc, _+_, _-_, _≤_}
-use mathlib.Core.Path.{_≡_, refl, sym, ap, _∙_, subst}
-use mathlib.Core.Bool.{Bool, true, false, not, _&&_, _||_}
-use mathlib.Core.List.{List, [], _∷_}
-use lib.Dec.{leb, ltb}
-use lib.ListN.{length, getD, take, drop}
-use native.Mathlib.Omega.{arith}
-use native.Mathlib.Nat.{add-zero}
-use borrow.Author.Tests.{ltb-true, leb-true}
+use Prim.Native.Nat.{ℕ, _≤_}
+use mathlib.Core.Path.{_≡_, sym, ap, _∙_}
+use mathlib.Core.List.{List}
+use lib.ListN.{length, drop}
 use Rattle.base.specs.declared.Cur.{Cur}
 use Rattle.base.specs.declared.Cur.the-variants.{At, No}
-use Rattle.meaning.specs.Reader.{read, refused, Reader, bytes, number, numberOf}
+use Rattle.meaning.specs.Reader.{read, refused, Reader, numberOf}
 use Rattle.places.specs.Bytes.{numberAt}
 use Rattle.places.specs.Answer.{answer, answer-value, answer-place, number-of-answer}
 
@@ -42,7 +37,9 @@ module _ {A : Type 0} {s : List ℕ} {r : Reader A} {x : ℕ} (k : Section s r x
 
   -- what was read is the value, and a place was reached
   pub section-is : (a : A) (left : List ℕ) → r (drop x s) ≡ read a left → (a ≡ k .value) × ((y : ℕ) × (k .place ≡ At y))
-  section-is a left h = let e = sym (k .reads) ∙ h in (answer-value s (k .value) (k .place) a left e, answer-place s (k .value) (k .place) a left e)
+  section-is a left h =
+      let e = sym (k .reads) ∙ h in
+      (answer-value s _ (k .place) a left e, answer-place s (k .value) _ a left e)
 
   -- its number
   pub section-number : numberOf (r (drop x s)) ≡ numberAt (k .place)

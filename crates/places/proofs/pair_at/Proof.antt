@@ -1,5 +1,4 @@
 -- `places::pair_at` meets its contract.
-use denote.Ref.{now}
 use Rattle.places.specs.NumberRead.{pair-past}
 use Rattle.places.specs.Bytes.{pairAt}
 use native.Mathlib.Omega.{arith}
@@ -8,7 +7,7 @@ use Rattle.places.proofs.pair_at.Statement.{statement}
 use Rattle.places.proofs.pair_at.Tie as tie
 
 returns : tie.Need-returns
-returns c = (pair-past (now (c .before .before .args .s)) (c .before .before .args .x) (omega arith), omega arith)
+returns c = (pair-past _ _ (omega arith), omega arith)
 
 returns-2 : tie.Need-returns-2
 unfolding pairAt
