@@ -1,7 +1,6 @@
 -- Sections of labels: how they are judged by places in their bytes, and that this is how the paper reads them.
-use Prim.Native.Nat.{ℕ, zero, suc, _+_, _≤_}
+use Prim.Native.Nat.{ℕ, _+_, _≤_}
 use mathlib.Core.Path.{_≡_, refl, sym, ap, _∙_}
-use mathlib.Core.Bool.{Bool, _||_}
 use mathlib.Core.List.{List, [], _∷_, _++_, append-assoc, append-nil}
 use lib.Dec.{leb, ltb}
 use lib.ListN.{length, getD, drop}
@@ -56,7 +55,9 @@ module _ (s : List ℕ) (k : ℕ) (d : List ℕ) (p : ℕ) where
   unfolding textsAt
   labels-told i x y t h e = record {
     place = rw (add-one i) (label-leads i x y e ∙ ap (afterLabel d) (h .place) ∙ sym (placeAfter-last (afterLabel d) p i));
-    before = rw (h .before, h .place, add-one i) (append-assoc (textsAt s 1 k) _ _ ∙ ap (_++_ (textsAt s 1 k)) (standing-last (textAt d) (afterLabel d) p i));
+    before =
+        rw (h .before, h .place, add-one i)
+        (append-assoc (textsAt s 1 k) _ _ ∙ ap (_++_ (textsAt s 1 k)) (standing-last (textAt d) (afterLabel d) p i));
   }
 
   -- n labels from the place p on
