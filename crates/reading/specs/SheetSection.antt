@@ -1,10 +1,10 @@
 -- Patterns and sheets: how they are judged by places in their bytes, and that this is how the paper reads them.
 use Prim.Native.Nat.{ℕ, _+_}
-use mathlib.Core.Path.{_≡_, refl, sym, ap, _∙_}
+use mathlib.Core.Path.{_≡_, refl, sym, ap}
 use mathlib.Core.Bool.{true}
-use mathlib.Core.List.{List, []}
+use mathlib.Core.List.{List}
 use lib.Dec.{leb, ltb}
-use lib.ListN.{length, getD, drop}
+use lib.ListN.{length, getD}
 use Rattle.base.specs.Choice.{pick}
 use Rattle.base.specs.Standing.{standing}
 use Rattle.base.specs.Loops.{andThen, run}
@@ -14,7 +14,7 @@ use Rattle.meaning.specs.Numbers.{endsEarly, countOutside, mostSteps, mostPatte
 use Rattle.meaning.specs.Reader.{read, _>>=_, _>>_, give, unless, byte, repeat, end}
 use Rattle.meaning.specs.Forest.{Forest, forest}
 use Rattle.meaning.specs.Sections.{pattern, labels, Sheet, sheet}
-use Rattle.meaning.specs.Calls.{judged, sheetNumber}
+use Rattle.meaning.specs.Calls.{sheetNumber}
 use Rattle.labels.specs.LabelPlaces.{textsAt}
 use Rattle.labels.specs.LabelSection.{labelsPlace, labelsSection, length-texts}
 use Rattle.reading.specs.SheetPlaces.{patternCountAt, sheetAt, forestAt, afterPattern, forestsAt}

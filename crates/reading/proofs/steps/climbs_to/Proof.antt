@@ -21,8 +21,9 @@ returns-2 c = climb-tops (c .before .before .before .loop .inv) (omega arith) (c
 
 loop-again : tie.Need-loop-again Inv-loop μ-loop
 loop-again c =
-    let tested = c .before .before in
-    climb-goes-on (tested .before .before .loop .inv) (omega arith) (tested .if1 .left) (c .before .if2 .left) (c .byte-at .ensures .0) (c .byte-at .ensures .1)
+    let climbing = c .before .before .before .before .loop .inv in
+    let parent = c .byte-at .ensures in
+    climb-goes-on climbing (omega arith) (c .before .before .if1 .left) (c .before .if2 .left) (parent .0) (parent .1)
 
 returns-3 : tie.Need-returns-3 Inv-loop μ-loop
 returns-3 c = climb-ends (c .before .loop .inv) (omega arith)

@@ -8,11 +8,11 @@ use Rattle.reading.specs.SheetPlaces.{stepAtPlace}
 
 returns : tie.Need-returns
 unfolding isNearRoot nearRoot stepAtPlace
-returns c = rw (← (c .before .byte-at .ensures .0), ne-eqb (c .before .byte-at .result) 0 (c .if1 .taken))
+returns c = rw (← (c .before .byte-at .ensures .0), ne-eqb _ _ (c .if1 .taken))
 
 returns-2 : tie.Need-returns-2
 unfolding isNearRoot nearRoot stepAtPlace
-returns-2 c = rw (← (c .before .before .byte-at .ensures .0), ← (c .byte-at2 .ensures .0), eq-eqb (c .before .before .byte-at .result) 0 (c .before .if1 .left))
+returns-2 c = rw (← (c .before .before .byte-at .ensures .0), ← (c .byte-at2 .ensures .0), eq-eqb _ _ (c .before .if1 .left))
 
 pub near-root-at-spec : {M : Type 1} → statement M
 near-root-at-spec =

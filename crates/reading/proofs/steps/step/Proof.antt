@@ -12,11 +12,15 @@ returns c = search picks depth 15
 
 returns-2 : tie.Need-returns-2
 unfolding stepPlace
-returns-2 c = rw (← (c .before .before .byte-at .ensures .0), ← (c .before .climbs-to .ensures)) (search (picks, not-true, not-false) depth 15)
+returns-2 c =
+    rw (← (c .before .before .byte-at .ensures .0), ← (c .before .climbs-to .ensures))
+    (search (picks, not-true, not-false) depth 15)
 
 returns-3 : tie.Need-returns-3
 unfolding stepPlace
-returns-3 c = rw (← (c .before .before .before .byte-at .ensures .0), ← (c .before .before .climbs-to .ensures)) (search (picks, not-true, not-false) depth 15)
+returns-3 c =
+    rw (← (c .before .before .before .byte-at .ensures .0), ← (c .before .before .climbs-to .ensures))
+    (search (picks, not-true, not-false) depth 15)
 
 returns-4 : tie.Need-returns-4
 unfolding stepPlace
