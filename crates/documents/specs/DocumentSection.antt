@@ -1,6 +1,6 @@
 -- Documents beside a sheet that was judged: how they are judged by places in their bytes, and that this is how the paper
 -- reads them.
-use Prim.Native.Nat.{ℕ, zero, suc, _+_, _*_, _≤_}
+use Prim.Native.Nat.{ℕ, suc, _+_, _≤_}
 use mathlib.Core.Path.{_≡_, refl, sym, ap, _∙_}
 use mathlib.Core.Bool.{_&&_}
 use mathlib.Core.List.{List}

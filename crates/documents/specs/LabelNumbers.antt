@@ -8,7 +8,6 @@ use native.Mathlib.Omega.{arith}
 use borrow.Author.Tests.{le-leb, lt-leb}
 use Rattle.base.specs.Choice.{pick}
 use Rattle.base.specs.Standing.{placeAfter, getD-standing}
-use Rattle.base.specs.declared.Cur.{Cur}
 use Rattle.base.specs.declared.Cur.the-variants.{At, No}
 use Rattle.meaning.specs.Sections.{Sheet, sheet, Document, document}
 use Rattle.meaning.specs.LabelBytes.{labelsOf, isLabel, labelAt}
@@ -33,10 +32,14 @@ module _ {B : Type 0} (s d : List ℕ) (refuse : ℕ → B) (next : Sheet → Do
 -- ---- the labels of both
 
 module _ (s d : List ℕ) (n : ℕ) where
+  -- as they stand
+  abbrev bothTexts : List (List ℕ)
+  bothTexts = textsAt s 1 (getD s 0 0) ++ textsAt d 1 (getD d 0 0)
+
   -- there are S + D of them
   labels-counted : length (labelsOf (sheetAt s) (documentAt d)) ≡ getD s 0 0 + getD d 0 0
   unfolding labelsOf sheetAt documentAt
-  labels-counted = length-append (textsAt s 1 (getD s 0 0)) (textsAt d 1 (getD d 0 0)) ∙ rw (length-texts s 1 (getD s 0 0), length-texts d 1 (getD d 0 0))
+  labels-counted = simp (length-append, length-texts)
 
   -- the number of a label: whether it exists
   pub number-there : (x : ℕ) → sheetDocumentPlace s d ≡ At x → 1 ≤ n → n ≤ getD s 0 0 + getD d 0 0 → 0 ≡ labelNumber s d n
@@ -79,13 +82,13 @@ module _ (s d : List ℕ) (n : ℕ) where
   counted-from-one ls (suc k) a = let e : suc k - 1 ≡ k = omega arith in rw e
 
   -- otherwise it is one of both, counted from 0
-  told : (x : ℕ) → sheetDocumentPlace s d ≡ At x → 1 ≤ n → labelPart s d n ≡ getD (textsAt s 1 (getD s 0 0) ++ textsAt d 1 (getD d 0 0)) (n - 1) []
+  told : (x : ℕ) → sheetDocumentPlace s d ≡ At x → 1 ≤ n → labelPart s d n ≡ getD bothTexts (n - 1) []
   unfolding labelPart labelsOf sheetAt documentAt
-  told x h a =
-      both-read s d _ _ x h ∙ counted-from-one (textsAt s 1 (getD s 0 0) ++ textsAt d 1 (getD d 0 0)) n a
+  told x h a = both-read s d _ _ x h ∙ counted-from-one bothTexts n a
 
   -- from the sheet's section
-  pub part-of-sheet : (x : ℕ) → sheetDocumentPlace s d ≡ At x → 1 ≤ n → n ≤ getD s 0 0 → textAt s (placeAfter (afterLabel s) 1 (n - 1)) ≡ labelPart s d n
+  pub part-of-sheet : (x : ℕ) → sheetDocumentPlace s d ≡ At x → 1 ≤ n → n ≤ getD s 0 0
+      → textAt s (placeAfter (afterLabel s) 1 (n - 1)) ≡ labelPart s d n
   unfolding textsAt
   part-of-sheet x h a b =
       sym (told x h a
@@ -99,14 +102,11 @@ module _ (s d : List ℕ) (n : ℕ) where
   part-of-document x h a b =
       let past : n - 1 ≡ length (textsAt s 1 (getD s 0 0)) + (n - getD s 0 0 - 1) = omega (arith, length-texts s 1 (getD s 0 0)) in
       sym (told x h (omega arith)
-      ∙ ap (λ (k : ℕ). getD (textsAt s 1 (getD s 0 0) ++ textsAt d 1 (getD d 0 0)) k []) past
+      ∙ ap (λ (k : ℕ). getD bothTexts k []) past
       ∙ getD-append-add (textsAt s 1 (getD s 0 0)) (textsAt d 1 (getD d 0 0)) (n - getD s 0 0 - 1) []
       ∙ getD-standing (textAt d) (afterLabel d) 1 (getD d 0 0) (n - getD s 0 0 - 1) [] (omega arith))
 
   -- empty past the last
   pub part-over : (x : ℕ) → sheetDocumentPlace s d ≡ At x → getD s 0 0 < n → getD d 0 0 < n - getD s 0 0 → [] ≡ labelPart s d n
-  part-over x h a b =
-      let both = textsAt s 1 (getD s 0 0) ++ textsAt d 1 (getD d 0 0) in
-      let long : length both ≡ getD s 0 0 + getD d 0 0 =
-      length-append (textsAt s 1 (getD s 0 0)) (textsAt d 1 (getD d 0 0)) ∙ rw (length-texts s 1 (getD s 0 0), length-texts d 1 (getD d 0 0)) in
-      sym (told x h (omega arith) ∙ List·getD-eq-default both [] (omega arith))
+  unfolding labelsOf sheetAt documentAt
+  part-over x h a b = sym (told x h (omega arith) ∙ List·getD-eq-default bothTexts [] (omega (arith, labels-counted)))
