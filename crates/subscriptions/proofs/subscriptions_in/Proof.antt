@@ -15,7 +15,7 @@ returns c =
       ← (c .before .before .before .after-labels .ensures .0),
       ← (c .before .before .pattern-places .ensures),
       ← (c .before .byte-at2 .ensures .0),
-      le-leb (c .before .byte-at2 .result) 64 (c .if1 .taken),
+      le-leb _ _ (c .if1 .taken),
     )
 
 returns-2 : tie.Need-returns-2
@@ -26,7 +26,7 @@ returns-2 c =
       ← (c .before .before .before .after-labels .ensures .0),
       ← (c .before .before .pattern-places .ensures),
       ← (c .before .byte-at2 .ensures .0),
-      lt-leb (c .before .byte-at2 .result) 64 (c .if1 .left),
+      lt-leb _ _ (c .if1 .left),
     )
 
 pub subscriptions-in-spec : {M : Type 1} → statement M
