@@ -1,7 +1,7 @@
 -- The bytes of a table beside a sheet that was judged: how they are judged by places, and that this is how the paper reads
 -- them; where its entries stand.
 use Prim.Native.Nat.{ℕ, _+_}
-use mathlib.Core.Path.{_≡_, refl, sym, ap}
+use mathlib.Core.Path.{refl, sym, ap}
 use mathlib.Core.List.{List}
 use lib.Dec.{leb}
 use lib.ListN.{getD}

@@ -10,7 +10,10 @@ use Rattle.tables.proofs.enough.Statement.{statement}
 use Rattle.tables.proofs.enough.Tie as tie
 
 returns : tie.Need-returns
-returns c = let none-left : _≡_ {A = ℕ} 0 (length (now (c .before .args .t)) - (c .before .args .x)) = omega arith in ap (leb (c .before .args .n)) none-left
+returns c =
+    let a = c .before .args in
+    let none-left : _≡_ {A = ℕ} 0 (length (now (a .t)) - a .x) = omega arith in
+    ap (leb (a .n)) none-left
 
 pub enough-spec : {M : Type 1} → statement M
 enough-spec = tie.close (tie.spec returns (λ c. search needs) (λ c. search needs))

@@ -8,11 +8,11 @@ use Rattle.tables.specs.TableSection.{tableEntries}
 
 returns : tie.Need-returns
 unfolding tableEntries pick
-returns c = rw (← (c .before .byte-at .ensures .0), ← (c .before .before .entry-places .ensures), le-leb (c .before .byte-at .result) 64 (c .if1 .taken))
+returns c = rw (← (c .before .byte-at .ensures .0), ← (c .before .before .entry-places .ensures), le-leb _ _ (c .if1 .taken))
 
 returns-2 : tie.Need-returns-2
 unfolding tableEntries pick
-returns-2 c = rw (← (c .before .byte-at .ensures .0), ← (c .before .before .entry-places .ensures), lt-leb (c .before .byte-at .result) 64 (c .if1 .left))
+returns-2 c = rw (← (c .before .byte-at .ensures .0), ← (c .before .before .entry-places .ensures), lt-leb _ _ (c .if1 .left))
 
 pub entries-in-spec : {M : Type 1} → statement M
 entries-in-spec = tie.close (tie.spec (λ c κs. search needs) (λ c κs. search needs) returns returns-2)

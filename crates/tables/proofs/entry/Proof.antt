@@ -1,8 +1,5 @@
 -- `tables::entry` meets its contract.
 use mathlib.Core.Path.{sym, _∙_}
-use denote.Ref.{now}
-use Prim.Native.Nat.{_-_}
-use lib.ListN.{length}
 use borrow.Author.Tests.{leb-true}
 use Rattle.tables.specs.TableSection.{entrySection}
 use Rattle.reading.specs.SheetSection.{patternSection}
@@ -14,8 +11,8 @@ use Rattle.tables.proofs.entry.Tie as tie
 
 add-pattern : tie.Need-add-pattern
 add-pattern c =
-    let a = c .before .before .before .args in
-    omega (arith, leb-true 8 (length (now (a .t)) - (a .x)) (sym (c .before .enough .ensures) ∙ c .if1 .taken))
+    let room = sym (c .before .enough .ensures) ∙ c .if1 .taken in
+    omega (arith, leb-true)
 
 returns : tie.Need-returns
 unfolding entrySection patternSection

@@ -1,19 +1,17 @@
 -- `tables::members_at` meets its contract.
 use native.Mathlib.Omega.{arith}
-use denote.Ref.{now}
 use Rattle.places.specs.NumberRead.{eight-bytes, number-past}
 use borrow.Author.Needs.{needs}
 use Rattle.tables.proofs.members_at.Statement.{statement}
 use Rattle.tables.proofs.members_at.Tie as tie
 
 returns : tie.Need-returns
-returns c = number-past (now (c .before .before .args .t)) (c .before .before .args .x) 8 (omega arith)
+returns c = number-past _ _ _ (omega arith)
 
 returns-2 : tie.Need-returns-2
 returns-2 c =
-    let a = c .before .before .before .before .before .before .args in
     rw (
-      ← (eight-bytes (now (a .t)) (a .x)),
+      ← (eight-bytes _ _),
       ← (c .before .before .before .pair-at .ensures .0),
       ← (c .before .before .pair-at2 .ensures .0),
       ← (c .before .pair-at3 .ensures .0),
