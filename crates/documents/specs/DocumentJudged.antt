@@ -40,7 +40,8 @@ module _ {B : Type 0} (s d : List ℕ) (refuse : ℕ → B) where
 
   -- the sheet first, then the document
   pub both-judged : (next : Sheet → Document → B)
-      → judged (sheet s) refuse (λ sh. judged (document sh d) refuse (next sh)) ≡ reached (sheetDocumentPlace s d) refuse (next (sheetAt s) (documentAt d))
+      → judged (sheet s) refuse (λ sh. judged (document sh d) refuse (next sh))
+      ≡ reached (sheetDocumentPlace s d) refuse (next (sheetAt s) (documentAt d))
   unfolding sheetDocumentPlace
   both-judged next =
       sheet-judged s refuse (λ sh. judged (document sh d) refuse (next sh))
@@ -50,7 +51,7 @@ module _ {B : Type 0} (s d : List ℕ) (refuse : ℕ → B) where
 -- the number of a document
 pub document-number : (s d : List ℕ) → numberAt (sheetDocumentPlace s d) ≡ documentNumber s d
 unfolding documentNumber sheetDocumentPlace sheetSection
-document-number s d = sym (number-after (sheetSection s) (λ sh. numberOf (document sh d)) (documentPlace s d) (section-number (documentSection s d)))
+document-number s d = sym (number-after (sheetSection s) _ (documentPlace s d) (section-number (documentSection s d)))
 
 -- n nodes from a place on
 pub record NodesStand (d : List ℕ) (at n : ℕ) : Type 0 where
@@ -78,7 +79,8 @@ nodes-inside d known x y h =
     (leb-true (pairAt d x) mostNodes (e .0), omega arith)
 
 -- so it is of a document that was judged
-pub document-stands : (s d : List ℕ) (y at n : ℕ) → documentPlace s d ≡ At y → at ≡ nodeCountAt d + 2 → n ≡ pairAt d (nodeCountAt d) → NodesStand d at n
+pub document-stands : (s d : List ℕ) (y at n : ℕ) → documentPlace s d ≡ At y → at ≡ nodeCountAt d + 2
+    → n ≡ pairAt d (nodeCountAt d) → NodesStand d at n
 unfolding documentSection nodesToEnd labelsSection documentAt nodeCountAt
 document-stands s d y at n h e f =
     let a = passed (ltb 0 (length d)) _ 1 y h in

@@ -41,7 +41,7 @@ module _ (s : List ℕ) (k : ℕ) (d : List ℕ) (p : ℕ) where
   -- the place after it
   pub label-leads : (i x y : ℕ) → labelPlace i x ≡ At y → y ≡ afterLabel d x
   unfolding labelSection afterLabel
-  label-leads i x y h = pick-true y (x + 1 + getD d x 0) x (ltb x (length d)) (passed (ltb x (length d)) _ 1 y h .0) (labelSection i x .leads y h)
+  label-leads i x y h = pick-true _ _ _ _ (passed (ltb x (length d)) _ 1 y h .0) (labelSection i x .leads y h)
 
   pub label-within : (i x y : ℕ) → x ≤ length d → labelPlace i x ≡ At y → y ≤ length d
   label-within i x y = labelSection i x .within y
@@ -51,7 +51,8 @@ module _ (s : List ℕ) (k : ℕ) (d : List ℕ) (p : ℕ) where
     pub place : x ≡ placeAfter (afterLabel d) p i
     pub before : t ≡ textsAt s 1 k ++ textsAt d p i
 
-  pub labels-told : (i x y : ℕ) (t : List (List ℕ)) → LabelsTold i x t → labelPlace i x ≡ At y → LabelsTold (i + 1) y (t ++ (textAt d x ∷ []))
+  pub labels-told : (i x y : ℕ) (t : List (List ℕ)) → LabelsTold i x t → labelPlace i x ≡ At y
+      → LabelsTold (i + 1) y (t ++ (textAt d x ∷ []))
   unfolding textsAt
   labels-told i x y t h e = record {
     place = rw (add-one i) (label-leads i x y e ∙ ap (afterLabel d) (h .place) ∙ sym (placeAfter-last (afterLabel d) p i));

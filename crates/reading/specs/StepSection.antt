@@ -153,7 +153,8 @@ module _ (s : List ℕ) (known p : ℕ) where
       longer : upwards (k + 1) ≡ (k + 1) ∷ upFrom (getD s x 0) (upwards k)
       longer =
           let before = stepsAt s p k in
-          let all : before ++ (stepAtPlace s x ∷ []) ≡ stepsAt s p (k + 1) = rw (add-one k) (rw there at (standing-last (stepAtPlace s) afterStep p k)) in
+          let all : before ++ (stepAtPlace s x ∷ []) ≡ stepsAt s p (k + 1) =
+          rw (add-one k) (rw there at (standing-last (stepAtPlace s) afterStep p k)) in
           let long : 1 + length before ≡ k + 1 = omega (arith, length-standing (stepAtPlace s) afterStep p k) in
           sym (ap (pathAfter 1 (0 ∷ [])) all) ∙ path-after 1 (0 ∷ []) before (stepAtPlace s x) ∙ rw long
 
@@ -168,7 +169,8 @@ module _ (s : List ℕ) (known p : ℕ) where
   step-reads k x w = simp (may-hang k (getD s x 0) w, answer-pick, then-byte, then-unless, pick-not, two)
 
   -- a step that was read: the next place, its parent was met, and it ends within the bytes
-  pub step-leads : (k x y : ℕ) → stepPlace s known p k x ≡ At y → (y ≡ afterStep x) × (climbs s p (getD s x 0) (k + 1) k ≡ true) × (y ≤ length s)
+  pub step-leads : (k x y : ℕ) → stepPlace s known p k x ≡ At y
+      → (y ≡ afterStep x) × (climbs s p (getD s x 0) (k + 1) k ≡ true) × (y ≤ length s)
   unfolding stepPlace stepLabel afterStep
   step-leads k x y h =
       let a = passed (ltb x (length s)) _ 1 y h in
@@ -188,7 +190,8 @@ module _ (s : List ℕ) (known p : ℕ) where
     pub before : t ≡ stepsAt s p k
     pub path : PathUp k
 
-  pub steps-told : (k x y : ℕ) (t : List Step) → StepsTold k x t → stepPlace s known p k x ≡ At y → StepsTold (k + 1) y (t ++ (stepAtPlace s x ∷ []))
+  pub steps-told : (k x y : ℕ) (t : List Step) → StepsTold k x t → stepPlace s known p k x ≡ At y
+      → StepsTold (k + 1) y (t ++ (stepAtPlace s x ∷ []))
   unfolding stepsAt
   steps-told k x y t h e =
       let leads = step-leads k x y e in

@@ -99,7 +99,8 @@ module _ (s : List ℕ) (sh : Sheet) (left : List ℕ) (h : sheet s ≡ read sh 
       getD-standing itself (afterPattern s) start 64 i 0 (omega arith) in
       let which : getD (sh .patterns) i none ≡ forestAt s (placeAfter (afterPattern s) start i) =
       ap (λ (t : Sheet). getD (t .patterns) i none) sheet-is ∙ getD-standing (forestAt s) (afterPattern s) start n i none (omega arith) in
-      let was = run-at (eachPlace (patternSection s (getD s 0 0))) _ (λ j x. patternSection s _ x .leads) n 0 start _ i (stand .all-read) (omega arith) in
+      let each = patternSection s (getD s 0 0) in
+      let was = run-at (eachPlace each) (afterPattern s) (λ j x. each x .leads) n 0 start _ i (stand .all-read) (omega arith) in
       rw (there, which) (taken-sound s (getD s 0 0) (placeAfter (afterPattern s) start i) (was .0) (was .1))
 
 -- past the end no pattern has steps

@@ -22,7 +22,8 @@ use Rattle.places.specs.NumberRead.{numberIn}
 use Rattle.subscriptions.specs.Taken.{itself}
 use Rattle.subscriptions.specs.TakenRead.{taken-sound}
 use Rattle.tables.specs.declared.Entries.{Entries}
-use Rattle.tables.specs.TableSection.{afterEntry, entryIn, entryTaken, tableAt, entryPlaces, tableEntries, entrySection, tableSection, tablePlace}
+use Rattle.tables.specs.TableSection.{afterEntry, entryIn, entryTaken, tableAt, entryPlaces, tableEntries}
+use Rattle.tables.specs.TableSection.{entrySection, tableSection, tablePlace}
 use Rattle.places.specs.InTurn.{eachPlace}
 
 -- as many as the table has entries, at most 64, each the entry at its place, its pattern well formed
@@ -62,7 +63,8 @@ module _ (s t : List ℕ) (y : ℕ) (h : tablePlace s t ≡ At y) where
       let x = placeAfter (afterEntry t) 1 i in
       let there : getD ((tableEntries t) .places) i 0 ≡ x = getD-standing itself (afterEntry t) 1 mostEntries i 0 (omega arith) in
       let which : getD (tableAt t) i d ≡ entryIn t x = getD-standing (entryIn t) (afterEntry t) 1 n i d b in
-      let was = run-at (eachPlace (entrySection t (getD s 0 0))) _ (λ j z. entrySection t _ z .leads) n 0 1 _ i (all-read .all-read) b in
+      let each = entrySection t (getD s 0 0) in
+      let was = run-at (eachPlace each) (afterEntry t) (λ j z. each z .leads) n 0 1 _ i (all-read .all-read) b in
       let r = taken-sound t (getD s 0 0) (x + 8) (was .0) (passed (leb 8 (length t - x)) _ 1 (was .0) (was .1) .1) in
       rw (there, which) (ap (λ (p : Forest). made (numberIn t x 8) p) (r .0), r .1)
 
@@ -78,6 +80,7 @@ module _ (s t : List ℕ) (y : ℕ) (h : tablePlace s t ≡ At y) where
       }
 
 -- the entry by value at the i-th place is the i-th entry, its pattern well formed
-pub entry-here : (t : List ℕ) (v : Entries) → EntriesStand t v → (i : ℕ) (e : shapes.Entry) → i < v .count → e ≡ entryTaken t (getD (v .places) i 0)
+pub entry-here : (t : List ℕ) (v : Entries) → EntriesStand t v → (i : ℕ) (e : shapes.Entry) → i < v .count
+    → e ≡ entryTaken t (getD (v .places) i 0)
     → (entryOf e ≡ getD (tableAt t) i noEntry) × WellFormed (e .pattern)
 entry-here t v stand i e l h = rw h (stand .taken i noEntry l)

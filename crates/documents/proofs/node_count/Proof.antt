@@ -6,7 +6,9 @@ use Rattle.documents.specs.DocumentSection.{nodeCountAt}
 
 returns : tie.Need-returns
 unfolding nodeCountAt
-returns c = (rw (← (c .before .before .byte-at .ensures .0), ← (c .before .after-labels .ensures .0)) (c .pair-at .ensures .0), c .pair-at .ensures .1)
+returns c =
+    let pair = c .pair-at .ensures in
+    (rw (← (c .before .before .byte-at .ensures .0), ← (c .before .after-labels .ensures .0)) (pair .0), pair .1)
 
 pub node-count-spec : {M : Type 1} → statement M
 node-count-spec = tie.close (tie.spec (λ c κs. search needs) (λ c κs. search needs) (λ c κs. search needs) returns)

@@ -27,14 +27,15 @@ unfolding textsAt
 returns c =
     let asked = c .before in
     let l = asked .before .before .before .loop in
-    some-hits _ _ _ _ (l .i) (l .x) _ _ (omega arith) (c .if1 .taken) (rw (asked .before .text-at .ensures) at (asked .same-label .ensures)) (l .inv)
+    let same = rw (asked .before .text-at .ensures) at (asked .same-label .ensures) in
+    some-hits _ _ _ _ (l .i) (l .x) _ _ (omega arith) (c .if1 .taken) same (l .inv)
 
 loop-again : tie.Need-loop-again Inv-loop μ-loop
 loop-again c =
     let asked = c .before .before in
     let l = asked .before .before .before .loop in
-    some-goes-on _ _ _ _ (l .i) (l .x) _ _ _ (omega arith) (c .before .if1 .left) (rw (asked .before .text-at .ensures) at (asked .same-label .ensures))
-    (c .after-label .ensures .0) (l .inv)
+    let same = rw (asked .before .text-at .ensures) at (asked .same-label .ensures) in
+    some-goes-on _ _ _ _ (l .i) (l .x) _ _ _ (omega arith) (c .before .if1 .left) same (c .after-label .ensures .0) (l .inv)
 
 returns-2 : tie.Need-returns-2 Inv-loop μ-loop
 unfolding textsAt
