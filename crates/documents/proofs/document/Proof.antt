@@ -41,7 +41,7 @@ returns-4 c =
     (search picks depth 15)
 
 returns-5 : tie.Need-returns-5
-unfolding documentSection nodesToEnd andThen
+unfolding documentSection andThen
 returns-5 c =
     rw (
       ← (c .before .before .before .before .before .before .byte-at .ensures .0),

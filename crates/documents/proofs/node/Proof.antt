@@ -6,11 +6,11 @@ use Rattle.documents.proofs.node.Tie as tie
 use Rattle.documents.specs.DocumentSection.{nodeSection, nodeLabel}
 
 returns : tie.Need-returns
-unfolding nodeSection nodeLabel
+unfolding nodeSection
 returns c = search picks depth 15
 
 returns-2 : tie.Need-returns-2
-unfolding nodeSection nodeLabel
+unfolding nodeSection
 returns-2 c = search picks depth 15
 
 returns-3 : tie.Need-returns-3
@@ -18,7 +18,7 @@ unfolding nodeSection nodeLabel
 returns-3 c = rw (← (c .before .before .before .pair-at .ensures .0), ← (c .before .before .node-parent .ensures)) (search picks depth 15)
 
 returns-4 : tie.Need-returns-4
-unfolding nodeSection nodeLabel
+unfolding nodeSection
 returns-4 c = rw (← (c .before .before .pair-at .ensures .0), ← (c .before .node-parent .ensures)) (search picks depth 15)
 
 pub node-spec : {M : Type 1} → statement M

@@ -35,7 +35,7 @@ returns-3 c =
     (search picks depth 15)
 
 returns-4 : tie.Need-returns-4
-unfolding sheetSection patternsToEnd andThen
+unfolding sheetSection andThen
 returns-4 c =
     rw (
       ← (c .before .before .before .before .byte-at .ensures .0),

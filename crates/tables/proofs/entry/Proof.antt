@@ -15,11 +15,11 @@ add-pattern c =
     omega (arith, leb-true)
 
 returns : tie.Need-returns
-unfolding entrySection patternSection
+unfolding entrySection
 returns c = rw (← (c .before .before .enough .ensures)) (search picks depth 15)
 
 returns-2 : tie.Need-returns-2
-unfolding entrySection patternSection
+unfolding entrySection
 returns-2 c = rw (← (c .before .enough .ensures)) (search picks depth 15)
 
 pub entry-spec : {M : Type 1} → statement M
