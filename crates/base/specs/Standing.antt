@@ -94,9 +94,6 @@ module _ {A : Type 0} (here : ℕ → A) (next : ℕ → ℕ) where
 
 -- ---- a loop that looks for a thing of which the test holds: what is left of it from here gives what all of it gives
 module _ {A : Type 0} (here : ℕ → A) (next : ℕ → ℕ) (test : A → Bool) (n i x : ℕ) (whole : Bool) where
-  pub some-starts : some test (standing here next x (n - 0)) ≡ some test (standing here next x n)
-  some-starts = ap (λ (k : ℕ). some test (standing here next x k)) (omega arith)
-
   pub some-hits : (r : Bool) → i < n → r ≡ true → r ≡ test (here x) → some test (standing here next x (n - i)) ≡ whole → true ≡ whole
   unfolding standing some
   some-hits r h t e p = sym (rw (split n i h, some, ← e, t)) ∙ p
@@ -112,9 +109,6 @@ module _ {A : Type 0} (here : ℕ → A) (next : ℕ → ℕ) (test : A → Bool
 
 -- ---- a loop that goes along: from here it is as far as from the start
 module _ (next : ℕ → ℕ) (n i x whole : ℕ) where
-  pub place-starts : placeAfter next x (n - 0) ≡ placeAfter next x n
-  place-starts = ap (placeAfter next x) (omega arith)
-
   pub place-goes-on : (y : ℕ) → i < n → y ≡ next x → placeAfter next x (n - i) ≡ whole → placeAfter next y (n - (i + 1)) ≡ whole
   unfolding placeAfter
   place-goes-on y h e p = rw e (sym (rw (split n i h)) ∙ p)

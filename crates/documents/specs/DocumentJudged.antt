@@ -11,7 +11,6 @@ use Rattle.base.specs.Standing.{placeAfter}
 use Rattle.base.specs.declared.Cur.{Cur}
 use Rattle.base.specs.declared.Cur.the-variants.{At}
 use Rattle.meaning.specs.Numbers.{countOutside, mostLabels, mostNodes}
-use Rattle.meaning.specs.Reader.{numberOf}
 use Rattle.meaning.specs.Sections.{Sheet, sheet, Document, document}
 use Rattle.meaning.specs.Satisfying.{parentsOf}
 use Rattle.meaning.specs.Calls.{judged, documentNumber}

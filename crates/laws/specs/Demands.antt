@@ -12,7 +12,7 @@ use Rattle.base.specs.Bools.{not-both}
 use Rattle.base.specs.Choice.{pick}
 use Rattle.meaning.specs.Numbers.{mostSteps, notThere}
 use Rattle.meaning.specs.Reader.{read, refused, Went, Reader}
-use Rattle.meaning.specs.Forest.{Forest, none, stepsOf}
+use Rattle.meaning.specs.Forest.{Forest, stepsOf}
 use Rattle.meaning.specs.Sections.{Sheet, sheet, Document, document, Entry}
 use Rattle.meaning.specs.Satisfying.{satisfies}
 use Rattle.meaning.specs.Covering.{Laying, covers}
@@ -24,10 +24,10 @@ use Rattle.meaning.specs.LabelBytes.{labelsOf, isLabel, labelAt}
 use Rattle.meaning.specs.ByBytes.{Satisfied}
 use Rattle.meaning.specs.Written.{patternBytes, sheetBytes, tableBytes}
 use Rattle.meaning.specs.Calls.{judged, fairTable, isSubscription, subscription, sheetNumber, documentNumber, tableNumber}
-use Rattle.meaning.specs.Calls.{matchesAnswer, coversAnswer, refuses, writes, withRoom, after, mergeWriting, mergeAnswer}
+use Rattle.meaning.specs.Calls.{matchesAnswer, coversAnswer, writes, withRoom, after, mergeWriting, mergeAnswer}
 use Rattle.meaning.specs.Calls.{buildWriting, buildAnswer, plainAnswer, tableAnswer, labelNumber, labelPart}
 use Rattle.meaning.specs.Printing.{asking}
-use Rattle.meaning.specs.Given.{Given, refusal, gives, ToldByNumber, askedGiven, MergeValues, mergedGiven}
+use Rattle.meaning.specs.Given.{Given, refusal, ToldByNumber, askedGiven, MergeValues, mergedGiven}
 use Rattle.meaning.specs.Given.{BuildValues, builtGiven, routedGiven, RouteValues, tabledGiven}
 use Rattle.meaning.specs.Promises.{MatchesGives, CoversGives, MergeGives, BuildGives, PlainRouteGives, TableRouteGives}
 use Rattle.meaning.specs.declared.Asked.{Asked}

@@ -8,7 +8,7 @@ use lib.ListN.{replicate}
 use Rattle.base.specs.Choice.{pick}
 use Rattle.base.specs.Lists.{some, every, keep, total, without, numbersFrom}
 use Rattle.meaning.specs.Reader.{go-on, _>>=_, _>>_, give, repeat, unless, byte, bytes, number, end, numberOf}
-use Rattle.meaning.specs.Forest.{axisOf, axisNumber, isNear, Forest, none, step, size, childrenIn, forest, stepsFrom}
+use Rattle.meaning.specs.Forest.{axisOf, axisNumber, isNear, Forest, none, size, childrenIn, forest, stepsFrom}
 use Rattle.meaning.specs.Forest.{stepsOf, parentIn, isChild, isBelowIn, isBelow, reaches, beside}
 use Rattle.meaning.specs.Sections.{sameLabel, label, labels, upFrom, pathAfter, mayHang, isNearRoot, nearRoot, aStep, steps}
 use Rattle.meaning.specs.Sections.{pattern, sheet, Node, nodeParent, aNode, nodes, document, entry, table}

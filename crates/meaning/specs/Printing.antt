@@ -9,7 +9,7 @@ use mathlib.Core.List.{List, [], _∷_, _++_, flatMap}
 use lib.Dec.{ltb}
 use lib.ListN.{length}
 use Rattle.base.specs.Choice.{pick}
-use Rattle.meaning.specs.Reader.{refused, Reader, _>>=_, give, number}
+use Rattle.meaning.specs.Reader.{Reader, _>>=_, give, number}
 use Rattle.meaning.specs.Forest.{Axis, near, far, Forest, none, step}
 use Rattle.meaning.specs.Sections.{Sheet, sheet, Entry}
 use Rattle.meaning.specs.Building.{Table, build, stepsTogether}

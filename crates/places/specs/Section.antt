@@ -4,8 +4,8 @@ use mathlib.Core.Path.{_≡_, sym, ap, _∙_}
 use mathlib.Core.List.{List}
 use lib.ListN.{length, drop}
 use Rattle.base.specs.declared.Cur.{Cur}
-use Rattle.base.specs.declared.Cur.the-variants.{At, No}
-use Rattle.meaning.specs.Reader.{read, refused, Reader, numberOf}
+use Rattle.base.specs.declared.Cur.the-variants.{At}
+use Rattle.meaning.specs.Reader.{read, Reader, numberOf}
 use Rattle.places.specs.Bytes.{numberAt}
 use Rattle.places.specs.Answer.{answer, answer-value, answer-place, number-of-answer}
 
@@ -29,11 +29,6 @@ module _ {A : Type 0} {s : List ℕ} {r : Reader A} {x : ℕ} (k : Section s r x
   pub section-read : (y : ℕ) → k .place ≡ At y → r (drop x s) ≡ read (k .value) (drop y s)
   unfolding answer
   section-read y h = k .reads ∙ ap (answer s (k .value)) h
-
-  -- where a fault was met, it was refused with that number
-  pub section-refused : (n : ℕ) → k .place ≡ No n → r (drop x s) ≡ refused n
-  unfolding answer
-  section-refused n h = k .reads ∙ ap (answer s (k .value)) h
 
   -- what was read is the value, and a place was reached
   pub section-is : (a : A) (left : List ℕ) → r (drop x s) ≡ read a left → (a ≡ k .value) × ((y : ℕ) × (k .place ≡ At y))

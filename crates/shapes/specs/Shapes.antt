@@ -1,7 +1,7 @@
 -- What a pattern, an entry and a table by value stand for, and what is so of each that the hub makes; nodes as they stand in bytes.
 use Prim.Native.Nat.{ℕ, _+_, _*_, _≤_}
 use mathlib.Core.Path.{_≡_, refl}
-use mathlib.Core.List.{List, [], _∷_, map, List·Memᴰ}
+use mathlib.Core.List.{List, map, List·Memᴰ}
 use native.Mathlib.Omega.{arith}
 use lib.ListN.{length, getD, take, replicate}
 use Rattle.base.specs.Standing.{standing}

@@ -2,7 +2,6 @@
 use mathlib.Core.Path.{sym, _∙_}
 use borrow.Author.Tests.{leb-true}
 use Rattle.tables.specs.TableSection.{entrySection}
-use Rattle.reading.specs.SheetSection.{patternSection}
 use Rattle.base.specs.Choice.{picks}
 use native.Mathlib.Omega.{arith}
 use borrow.Author.Needs.{needs}
