@@ -19,6 +19,11 @@ use Rattle.meaning.specs.Calls.{isSubscription, subscription}
 use Rattle.meaning.specs.declared.Asked.{Asked}
 use Rattle.meaning.specs.declared.Asked.the-variants as asked
 use Rattle.members.specs.Marks.{marked, delivery-last}
+use Rattle.shapes.specs.Shapes.{patternOf}
+use Rattle.reading.specs.SheetPlaces.{sheetAt}
+use Rattle.subscriptions.specs.declared.Subscriptions.{Subscriptions}
+use Rattle.subscriptions.specs.Taken.{patternAt}
+use Rattle.subscriptions.specs.Subscribed.{SubscriptionsStand}
 
 module _ (ns : List Node) (ps : List Forest) where
   -- the delivery set of the first i subscriptions
@@ -26,12 +31,12 @@ module _ (ns : List Node) (ps : List Forest) where
   firstDelivered i = deliverySet (map (satisfies ns) (take i ps))
 
   -- nothing of none
-  pub none-delivered : 0 ≡ firstDelivered 0
+  none-delivered : 0 ≡ firstDelivered 0
   unfolding firstDelivered deliverySet
   none-delivered = refl
 
   -- one more is marked where it matches
-  pub next-delivered : (i set : ℕ) (said : Bool) → i < length ps → said ≡ satisfies ns (getD ps i none) → set ≡ firstDelivered i
+  next-delivered : (i set : ℕ) (said : Bool) → i < length ps → said ≡ satisfies ns (getD ps i none) → set ≡ firstDelivered i
       → marked set i said ≡ firstDelivered (i + 1)
   unfolding firstDelivered
   next-delivered i set said h e f =
@@ -42,21 +47,47 @@ module _ (ns : List Node) (ps : List Forest) where
       rw (add-one i, f, e, more) (sym (rw long at (delivery-last first (satisfies ns (getD ps i none)))))
 
   -- all of them are the plain route
-  pub all-delivered : (i set : ℕ) → length ps ≤ i → set ≡ firstDelivered i → set ≡ plainRoute ns ps
+  all-delivered : (i set : ℕ) → length ps ≤ i → set ≡ firstDelivered i → set ≡ plainRoute ns ps
   unfolding firstDelivered plainRoute
   all-delivered i set h f = f ∙ ap (λ (l : List Forest). deliverySet (map (satisfies ns) l)) (take-all i ps h)
+
+-- the first i subscriptions of a sheet are asked, and the set is theirs
+pub record Delivering (ns : List Node) (s : List ℕ) (v : Subscriptions) (i set : ℕ) : Type 0 where
+  pub stand : SubscriptionsStand s v
+  pub so-far : set ≡ firstDelivered ns (sheetAt s .patterns) i
+
+module _ {ns : List Node} {s : List ℕ} {v : Subscriptions} where
+  -- none is asked
+  pub delivery-starts : SubscriptionsStand s v → Delivering ns s v 0 0
+  delivery-starts stand = record { stand = stand; so-far = none-delivered ns (sheetAt s .patterns) }
+
+  module _ {i set : ℕ} (turn : Delivering ns s v i set) where
+    -- the pattern at the next place is asked, and its subscription marked
+    pub delivery-goes-on : i < v .count → {said : Bool} {more : ℕ} → said ≡ satisfies ns (patternOf (patternAt s (getD (v .places) i 0)))
+        → more ≡ marked set i said → Delivering ns s v (i + 1) more
+    delivery-goes-on h asked marks =
+        let here = asked ∙ ap (satisfies ns) (turn .stand .taken i h .0) in
+        let next = next-delivered ns (sheetAt s .patterns) i set _ (omega (arith, turn .stand .counted)) here (turn .so-far) in
+        record { stand = turn .stand; so-far = marks ∙ next }
+
+    -- all are asked
+    pub delivery-ends : v .count ≤ i → set ≡ plainRoute ns (sheetAt s .patterns)
+    delivery-ends h = all-delivered ns (sheetAt s .patterns) i set (omega (arith, turn .stand .counted)) (turn .so-far)
 
 -- one subscription of a sheet asked by its number
 unfoldable pub numberedAnswer : List Node → Sheet → ℕ → Asked
 numberedAnswer ns sh i = pick (isSubscription sh i) (asked.Said (satisfies ns (subscription sh i))) (asked.Refused notThere)
 
--- there is such a subscription
-pub answer-there : (ns : List Node) (sh : Sheet) (i : ℕ) (said : Bool) → i < length (sh .patterns)
-    → said ≡ satisfies ns (getD (sh .patterns) i none) → asked.Said said ≡ numberedAnswer ns sh i
-unfolding numberedAnswer isSubscription subscription
-answer-there ns sh i said h e = pick-true _ _ _ (ltb i (length (sh .patterns))) (lt-ltb i (length (sh .patterns)) h) (ap asked.Said e)
+module _ (ns : List Node) {s : List ℕ} {v : Subscriptions} (stand : SubscriptionsStand s v) (i : ℕ) where
+  -- there is such a subscription, and the pattern at its place is asked
+  pub answer-there : {said : Bool} → i < v .count → said ≡ satisfies ns (patternOf (patternAt s (getD (v .places) i 0)))
+      → asked.Said said ≡ numberedAnswer ns (sheetAt s) i
+  unfolding numberedAnswer isSubscription subscription
+  answer-there h e =
+      pick-true _ _ _ (ltb i (length (sheetAt s .patterns))) (lt-ltb i _ (omega (arith, stand .counted)))
+      (ap asked.Said (e ∙ ap (satisfies ns) (stand .taken i h .0)))
 
--- there is none
-pub answer-not-there : (ns : List Node) (sh : Sheet) (i : ℕ) → length (sh .patterns) ≤ i → asked.Refused 11 ≡ numberedAnswer ns sh i
-unfolding numberedAnswer isSubscription
-answer-not-there ns sh i h = pick-false _ _ _ (ltb i (length (sh .patterns))) (le-ltb i (length (sh .patterns)) h) refl
+  -- there is none
+  pub answer-not-there : v .count ≤ i → asked.Refused 11 ≡ numberedAnswer ns (sheetAt s) i
+  unfolding numberedAnswer isSubscription
+  answer-not-there h = pick-false _ _ _ (ltb i (length (sheetAt s .patterns))) (le-ltb i _ (omega (arith, stand .counted))) refl

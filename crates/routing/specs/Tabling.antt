@@ -1,5 +1,5 @@
 -- The route by a table, entry by entry and member by member: the set so far, and how many patterns were tried.
-use Prim.Native.Nat.{ℕ, zero, suc, _+_, _-_, _≤_, _<_}
+use Prim.Native.Nat.{ℕ, zero, suc, _+_, _-_, _*_, _≤_, _<_}
 use mathlib.Core.Path.{_≡_, refl, sym, _∙_}
 use mathlib.Core.Bool.{Bool, true, false}
 use mathlib.Core.List.{List, [], _∷_}
@@ -10,9 +10,11 @@ use Rattle.base.specs.Choice.{pick, pick-true, pick-false}
 use Rattle.base.specs.Lists.{keep, total, numbersFrom}
 use Rattle.base.specs.ListLaws.{length-keep, length-numbersFrom}
 use Rattle.base.specs.Loops.{foldN}
-use Rattle.base.specs.Along.{foldAlong, along-goes-on, foldN-goes-on}
+use Rattle.base.specs.Along.{foldAlong, along-goes-on, along-ends, foldN-starts, foldN-goes-on, foldN-ends}
 use Rattle.meaning.specs.Forest.{Forest, none}
+use Rattle.meaning.specs.Numbers.{mostPatterns}
 use Rattle.meaning.specs.Sections.{Node, Entry}
+use Rattle.meaning.specs.Building.{noEntry}
 use Rattle.meaning.specs.Satisfying.{satisfies}
 use Rattle.meaning.specs.Fair.{isMember}
 use Rattle.meaning.specs.Routing.{membersOf, triedFor, tried}
@@ -44,7 +46,7 @@ unfolding memberTried
 member-left members i said r b e h = pick-false _ _ _ (isMember members i) (sym e ∙ h) refl
 
 -- at most one more
-pub member-tried-few : (members i : ℕ) (said : Bool) (r q : Route) → q ≡ memberTried members i said r → q .tried ≤ r .tried + 1
+member-tried-few : (members i : ℕ) (said : Bool) (r q : Route) → q ≡ memberTried members i said r → q .tried ≤ r .tried + 1
 unfolding memberTried pick
 member-tried-few members i said r q h = rw h (go (isMember members i))
   where
@@ -99,7 +101,7 @@ module _ (ns : List Node) (ps : List Forest) where
       go false = omega arith
 
   -- at most one and as many as there are subscriptions
-  pub entry-tried-few : (e : Entry) (r q : Route) → q ≡ askEntry e r → q .tried ≤ r .tried + 1 + length ps
+  entry-tried-few : (e : Entry) (r q : Route) → q ≡ askEntry e r → q .tried ≤ r .tried + 1 + length ps
   unfolding triedFor membersOf pick
   entry-tried-few e r q h =
       let most : triedFor ns (length ps) e ≤ length ps = go (satisfies ns (e .pattern)) in
@@ -122,17 +124,15 @@ module _ (ns : List Node) (ps : List Forest) where
 
   -- ---- the loops along members and along entries
 
-  -- one member more
-  pub members-go-on : (members i : ℕ) (r q whole : Route) (said : Bool) → i < length ps → said ≡ satisfies ns (getD ps i none)
-      → q ≡ memberTried members i said r
-      → foldN (askMember members) (length ps - i) i r ≡ whole → foldN (askMember members) (length ps - (i + 1)) (i + 1) q ≡ whole
-  unfolding askMember
-  members-go-on members i r q whole said h e f k = rw (f, e) (foldN-goes-on (askMember members) (length ps) i r whole h k)
+  -- the members from i on give what all give; at most one try for each so far
+  pub record TryingMembers (members : ℕ) (r₀ : Route) (i : ℕ) (r : Route) : Type 0 where
+    pub few : r .tried ≤ r₀ .tried + i
+    pub left : foldN (askMember members) (length ps - i) i r ≡ askMembers members r₀
 
-  -- one entry more
-  pub entries-go-on : (es : List Entry) (j : ℕ) (r q whole : Route) (e d : Entry) → j < length es → e ≡ getD es j d → q ≡ askEntry e r
-      → foldAlong askEntry (drop j es) r ≡ whole → foldAlong askEntry (drop (j + 1) es) q ≡ whole
-  entries-go-on es j r q whole e d h f g k = rw (g, f) (along-goes-on askEntry es d j r whole k h)
+  -- the entries from j on give what all give; at most 65 tries for each entry so far
+  pub record TryingEntries (es : List Entry) (j : ℕ) (r : Route) : Type 0 where
+    pub few : r .tried ≤ 65 * j
+    pub left : foldAlong askEntry (drop j es) r ≡ routeBy es
 
   -- ---- as an entry is asked
 
@@ -146,3 +146,44 @@ module _ (ns : List Node) (ps : List Forest) where
     pub entry-fails : b ≡ false → _≡_ {A = Route} (record { set = r .set; tried = n }) (askEntry e r)
     unfolding askEntry oneMore
     entry-fails h = pick-false _ _ _ (satisfies ns (e .pattern)) (sym said ∙ h) (rw one)
+
+module _ {ns : List Node} {ps : List Forest} {members : ℕ} {r₀ : Route} where
+  -- none of the members is tried
+  pub members-start : TryingMembers ns ps members r₀ 0 r₀
+  unfolding askMembers
+  members-start = record { few = omega arith; left = foldN-starts (askMember ns ps members) (length ps) 0 r₀ r₀ }
+
+  module _ {i : ℕ} {r : Route} (turn : TryingMembers ns ps members r₀ i r) where
+    -- one member more
+    pub members-go-on : {q : Route} {said : Bool} → i < length ps → said ≡ satisfies ns (getD ps i none) → q ≡ memberTried members i said r
+        → TryingMembers ns ps members r₀ (i + 1) q
+    unfolding askMember
+    members-go-on h e f =
+        record {
+          few = omega (arith, turn .few, member-tried-few members i _ r _ f);
+          left = rw (f, e) (foldN-goes-on (askMember ns ps members) (length ps) i r _ h (turn .left));
+        }
+
+    -- none is left
+    pub members-end : length ps ≤ i → r ≡ askMembers ns ps members r₀
+    members-end h = foldN-ends (askMember ns ps members) (length ps) i r _ h (turn .left)
+
+module _ {ns : List Node} {ps : List Forest} {es : List Entry} where
+  -- no entry is tried
+  pub entries-start : TryingEntries ns ps es 0 start
+  unfolding routeBy start
+  entries-start = record { few = omega arith; left = refl }
+
+  module _ {j : ℕ} {r : Route} (turn : TryingEntries ns ps es j r) where
+    -- one entry more
+    pub entries-go-on : {q : Route} {e : Entry} → j < length es → length ps ≤ mostPatterns → e ≡ getD es j noEntry → q ≡ askEntry ns ps e r
+        → TryingEntries ns ps es (j + 1) q
+    entries-go-on h most f g =
+        record {
+          few = omega (arith, turn .few, entry-tried-few ns ps _ r _ g);
+          left = rw (g, f) (along-goes-on (askEntry ns ps) es noEntry j r _ (turn .left) h);
+        }
+
+    -- none is left
+    pub entries-end : length es ≤ j → r ≡ routeBy ns ps es
+    entries-end h = along-ends (askEntry ns ps) es noEntry j r _ (turn .left) h

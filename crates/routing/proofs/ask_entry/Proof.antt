@@ -17,11 +17,15 @@ ask-members-requires c κs =
 
 returns : tie.Need-returns
 unfolding entryOf
-returns c = entry-matches _ _ (entryOf _) _ _ _ (c .before .before .try-pattern .ensures .0) (c .before .before .try-pattern .ensures .1) _ (c .before .if1 .taken) (c .ask-members .ensures)
+returns c =
+    let tried = c .before .before .try-pattern .ensures in
+    entry-matches _ _ (entryOf _) _ _ _ (tried .0) (tried .1) _ (c .before .if1 .taken) (c .ask-members .ensures)
 
 returns-2 : tie.Need-returns-2
 unfolding entryOf
-returns-2 c = entry-fails _ _ (entryOf _) _ _ _ (c .before .try-pattern .ensures .0) (c .before .try-pattern .ensures .1) (c .if1 .left)
+returns-2 c =
+    let tried = c .before .try-pattern .ensures in
+    entry-fails _ _ (entryOf _) _ _ _ (tried .0) (tried .1) (c .if1 .left)
 
 pub ask-entry-spec : {M : Type 1} → statement M
 ask-entry-spec = tie.close (tie.spec try-pattern-requires ask-members-requires returns returns-2)

@@ -15,8 +15,10 @@ try-pattern-requires c κs =
 
 returns-2 : tie.Need-returns-2
 returns-2 c =
-    member-asked _ _ _ _ _ _ _ _ (c .before .before .before .before .is-member .ensures) (not-false _ (c .before .before .before .if1 .left))
-    (rw (← (c .before .before .pattern-at .ensures)) (c .before .try-pattern .ensures .0)) (c .mark .ensures) (c .before .try-pattern .ensures .1)
+    let member = c .before .before .before in
+    let tried = c .before .try-pattern .ensures in
+    member-asked _ _ _ _ _ _ _ _ (member .before .is-member .ensures) (not-false _ (member .if1 .left))
+    (rw (← (c .before .before .pattern-at .ensures)) (tried .0)) (c .mark .ensures) (tried .1)
 
 pub ask-member-spec : {M : Type 1} → statement M
 ask-member-spec =

@@ -11,24 +11,26 @@ ask-entries-requires : tie.Need-ask-entries-requires
 ask-entries-requires c κs =
     let y = c .before .before .before .before .before in
     let x = y .before .before .before .before in
-    let both = fair-stand _ _ _ _ _ (sym (x .before .before .fair-table .ensures) ∙ x .x .given .1) (c .before .before .before .subscriptions-in .ensures) (c .before .before .entries-in .ensures) in (
-      both .0,
-      both .1,
-      document-stands _ _ _ _ _ (sym (y .before .before .document .ensures) ∙ y .y .given .1) (c .before .node-place .ensures .0) (c .node-count .ensures .0),
-    )
+    let fair = sym (x .before .before .fair-table .ensures) ∙ x .x .given .1 in
+    let judged = sym (y .before .before .document .ensures) ∙ y .y .given .1 in
+    let both = fair-stand _ _ _ _ _ fair (c .before .before .before .subscriptions-in .ensures) (c .before .before .entries-in .ensures) in
+    (both .0, both .1, document-stands _ _ _ _ _ judged (c .before .node-place .ensures .0) (c .node-count .ensures .0))
 
 returns : tie.Need-returns
 returns c =
     let y = c .before .before .before .before .before .before in
     let x = y .before .before .before .before in
-    table-delivered _ _ _ _ (sym (x .before .before .fair-table .ensures) ∙ x .x .given .1) _ _ _ _
-    (sym (y .before .before .document .ensures) ∙ y .y .given .1) (c .before .before .node-place .ensures .0) (c .before .node-count .ensures .0) (c .ask-entries .ensures)
+    let fair = sym (x .before .before .fair-table .ensures) ∙ x .x .given .1 in
+    let judged = sym (y .before .before .document .ensures) ∙ y .y .given .1 in
+    table-delivered _ _ _ _ fair _ _ _ _ judged (c .before .before .node-place .ensures .0) (c .before .node-count .ensures .0)
+    (c .ask-entries .ensures)
 
 returns-2 : tie.Need-returns-2
 returns-2 c =
     let asked = c .before .before .before in
     let x = asked .before .before in
-    document-refused _ _ _ _ (sym (x .before .before .fair-table .ensures) ∙ x .x .given .1) _ (sym (asked .document .ensures) ∙ c .before .m .given .1)
+    let fair = sym (x .before .before .fair-table .ensures) ∙ x .x .given .1 in
+    document-refused _ _ _ _ fair _ (sym (asked .document .ensures) ∙ c .before .m .given .1)
 
 returns-3 : tie.Need-returns-3
 returns-3 c = table-refused _ _ _ _ (sym (c .before .before .before .fair-table .ensures) ∙ c .before .m2 .given .1)
