@@ -8,12 +8,18 @@ use lib.ListN.{length-set}
 use lib.Seq.{sets, length-sets}
 use Rattle.base.specs.Storing.{partsFrom, left-first, left-same, StoringTurn, turn-room, turn-goes-on, turns-end}
 use Rattle.meaning.specs.Written.{stepBytes}
+use Rattle.meaning.specs.declared.Step.{Step}
 use Rattle.writing.specs.BytesWritten.{pattern-bytes, pattern-length, steps-length}
 use Rattle.writing.proofs.put_pattern.Statement.{statement}
 use Rattle.writing.proofs.put_pattern.Tie as tie
 
+abbrev noStep : Step
+noStep = record { parent = 0; axis = 0; label = 0 }
+
 abbrev Inv-loop : tie.InvT-loop
-Inv-loop out₀ at p next₀ k₀ out next k = StoringTurn stepBytes (p .count) (p .steps) (sets out₀ next₀ (partsFrom stepBytes (p .count) 0 (p .steps))) (next₀ + 3 * p .count) out next k
+Inv-loop out₀ at p next₀ k₀ out next k =
+    let whole = sets out₀ next₀ (partsFrom stepBytes (p .count) 0 (p .steps)) in
+    StoringTurn stepBytes (p .count) (p .steps) whole (next₀ + 3 * p .count) out next k
 
 abbrev μ-loop : tie.MeasureT-loop
 μ-loop out₀ at p next₀ k₀ out next k = p .count - k
@@ -42,14 +48,18 @@ element-copy-out-put-step c = omega (arith, c .before .before .before .before .p
 
 put-step-requires : tie.Need-put-step-requires Inv-loop μ-loop
 unfolding stepBytes
-put-step-requires c κs = turn-room (c .before .before .before .loop .inv) (record { parent = 0; axis = 0; label = 0 }) (c .before .before .loop-test .taken)
+put-step-requires c κs = turn-room (c .before .before .before .loop .inv) noStep (c .before .before .loop-test .taken)
 
 add-next-2 : tie.Need-add-next-2 Inv-loop μ-loop
-add-next-2 c = search (needs, turn-room (c .before .before .before .before .before .before .loop .inv) (record { parent = 0; axis = 0; label = 0 }) (c .before .before .before .before .before .loop-test .taken))
+add-next-2 c =
+    let l = c .before .before .before .before .before .before in
+    search (needs, turn-room (l .loop .inv) noStep (c .before .before .before .before .before .loop-test .taken))
 
 loop-again : tie.Need-loop-again Inv-loop μ-loop
 unfolding stepBytes
-loop-again c = turn-goes-on (c .before .before .before .before .before .before .loop .inv) _ (c .before .before .before .before .before .loop-test .taken) _ _ (c .before .before .put-step .ensures) refl
+loop-again c =
+    let turn = c .before .before .before .before .before in
+    turn-goes-on (turn .before .loop .inv) _ (turn .loop-test .taken) _ _ (c .before .before .put-step .ensures) refl
 
 same-length : tie.Need-same-length Inv-loop μ-loop
 same-length c = left-same (c .before .loop .inv .left) ∙ simp (length-sets, length-set)
@@ -58,7 +68,8 @@ returns : tie.Need-returns Inv-loop μ-loop
 returns c =
     let sound = c .before .before .before .pre .0 in
     let done = turns-end (c .before .loop .inv) (c .loop-test .left) in
-    (omega (arith, done .0, pattern-length _ sound), rw (pattern-bytes _ sound) (rw (add-one (c .before .before .before .args .at)) at (done .1)))
+    let stored = rw (add-one (c .before .before .before .args .at)) at (done .1) in
+    (omega (arith, done .0, pattern-length _ sound), rw (pattern-bytes _ sound) stored)
 
 pub put-pattern-spec : {M : Type 1} → statement M
 put-pattern-spec =

@@ -1,5 +1,5 @@
 -- `writing::put_table` meets its contract. In turn i the entries from i on are left to store.
-use Prim.Native.Nat.{_-_, _<_}
+use Prim.Native.Nat.{_-_}
 use mathlib.Core.Path.{refl, ap, _∙_}
 use native.Mathlib.Omega.{arith}
 use borrow.Author.Needs.{needs}
@@ -14,7 +14,9 @@ use Rattle.writing.proofs.put_table.Statement.{statement}
 use Rattle.writing.proofs.put_table.Tie as tie
 
 abbrev Inv-loop : tie.InvT-loop
-Inv-loop out₀ t at₀ i₀ out at i = StoringTurn bytesOf (t .count) (t .entries) (sets out₀ 1 (partsFrom bytesOf (t .count) 0 (t .entries))) (length (tableBytes (tableOf t))) out at i
+Inv-loop out₀ t at₀ i₀ out at i =
+    let whole = sets out₀ 1 (partsFrom bytesOf (t .count) 0 (t .entries)) in
+    StoringTurn bytesOf (t .count) (t .entries) whole (length (tableBytes (tableOf t))) out at i
 
 abbrev μ-loop : tie.MeasureT-loop
 μ-loop out₀ t at₀ i₀ out at i = t .count - i
@@ -23,8 +25,7 @@ cast-out : tie.Need-cast-out Inv-loop μ-loop
 cast-out c = search (needs, c .before .pre .0 .few)
 
 slice-write-out : tie.Need-slice-write-out Inv-loop μ-loop
-slice-write-out c =
-    let room : 0 < length (c .before .args .out .now) = omega (arith, c .before .pre .1, ap length (table-bytes _ (c .before .pre .0))) in room
+slice-write-out c = omega (arith, c .before .pre .1, ap length (table-bytes _ (c .before .pre .0)))
 
 loop-holds : tie.Need-loop-holds Inv-loop μ-loop
 loop-holds c =
@@ -40,10 +41,16 @@ element-copy-out-put-entry : tie.Need-element-copy-out-put-entry Inv-loop μ-loo
 element-copy-out-put-entry c = omega (arith, c .before .before .before .before .pre .0 .few)
 
 put-entry-requires : tie.Need-put-entry-requires Inv-loop μ-loop
-put-entry-requires c κs = (entry-sound _ (c .before .before .before .before .before .pre .0) _ _ (c .before .before .loop-test .taken), turn-room (c .before .before .before .loop .inv) noEntryValue (c .before .before .loop-test .taken))
+put-entry-requires c κs =
+    let below = c .before .before .loop-test .taken in
+    let l = c .before .before .before in
+    (entry-sound _ (l .before .before .pre .0) _ _ below, turn-room (l .loop .inv) noEntryValue below)
 
 loop-again : tie.Need-loop-again Inv-loop μ-loop
-loop-again c = turn-goes-on (c .before .before .before .before .before .before .loop .inv) noEntryValue (c .before .before .before .before .before .loop-test .taken) _ _ (c .before .before .put-entry .ensures .1) (c .before .before .put-entry .ensures .0)
+loop-again c =
+    let turn = c .before .before .before .before .before in
+    let stored = c .before .before .put-entry .ensures in
+    turn-goes-on (turn .before .loop .inv) noEntryValue (turn .loop-test .taken) _ _ (stored .1) (stored .0)
 
 same-length : tie.Need-same-length Inv-loop μ-loop
 same-length c = left-same (c .before .loop .inv .left) ∙ simp (length-sets, length-set)

@@ -8,7 +8,9 @@ returns : tie.Need-returns
 returns c = not-written _ _ _ (c .before .pattern-length .ensures .0) (c .if1 .taken)
 
 returns-2 : tie.Need-returns-2
-returns-2 c = written _ _ _ (c .before .before .before .before .before .pattern-length .ensures .0) (c .before .before .before .before .if1 .left) _ (c .before .before .put-pattern .ensures .1)
+returns-2 c =
+    let room = c .before .before .before .before in
+    written _ _ _ (room .before .pattern-length .ensures .0) (room .if1 .left) _ (c .before .before .put-pattern .ensures .1)
 
 pub write-pattern-spec : {M : Type 1} → statement M
 write-pattern-spec =
