@@ -66,7 +66,8 @@ module _ (ls : List (List ℕ)) (many : Bool) (p : Pattern) (sound : WellFormed 
   pub branch-text : k < p .count → stepIn p k .parent ≡ v
       → branchesText ls many (childrenFrom (stepsIn p) v k)
       ≡ byteIf many 91
-      ++ (stepText ls (stepIn p k) ++ (belowText ls (childrenOf (stepsIn p) (k + 1)) ++ (byteIf many 93 ++ branchesText ls many (childrenFrom (stepsIn p) v (k + 1)))))
+      ++ (stepText ls (stepIn p k)
+      ++ (belowText ls (childrenOf (stepsIn p) (k + 1)) ++ (byteIf many 93 ++ branchesText ls many (childrenFrom (stepsIn p) v (k + 1)))))
   unfolding branchesText stepText belowText
   branch-text h e =
       ap (branchesText ls many) (child-here p sound v k h e)

@@ -1,4 +1,5 @@
--- `texts::pattern::put_below` meets its contract. The loop: what is left of the branches, put from here, gives what all of them give. The calls end since fewer steps are left.
+-- `texts::pattern::put_below` meets its contract. The loop: what is left of the branches, put from here, gives what all of them
+-- give. The calls end since fewer steps are left.
 use mathlib.Core.Path.{refl}
 use native.Mathlib.Omega.{arith}
 use borrow.Author.Needs.{needs}
@@ -34,57 +35,16 @@ put-below-below t =
 
 abbrev put-below-Inv-loop : put-below-lts.InvT-loop
 put-below-Inv-loop out₀ at s v p many next₀ k₀ out next k =
-    (v ≤ k) × LeftToPut out₀ at (branchesText (labelsIn s) many (childrenFrom (stepsIn p) v v)) out next (branchesText (labelsIn s) many (childrenFrom (stepsIn p) v k))
+    (v ≤ k)
+    × LeftToPut out₀ at (branchesText (labelsIn s) many (childrenFrom (stepsIn p) v v))
+    out next (branchesText (labelsIn s) many (childrenFrom (stepsIn p) v k))
 
 abbrev put-below-μ-loop : put-below-lts.MeasureT-loop
 put-below-μ-loop out₀ at s v p many next₀ k₀ out next k = p .count - k
 
-abbrev PutBelow : (put-below-lts.Claims → In 2 put-below-kinds.ps → Out 2 put-below-kinds.ps put-below-kinds.r → put-below-lts.InvT-loop
-    → put-below-lts.MeasureT-loop → Type 0) → Type 0
-PutBelow need = (t : ℕ) → need (
-  several-below-reads.Asked,
-  several-below-reads.Learnt,
-  put-if-reads.Asked,
-  put-if-reads.Learnt,
-  put-step-reads.Asked,
-  put-step-reads.Learnt,
-  put-below-below t,
-  put-below.Post,
-) (put-below-at t) put-below.Post put-below-Inv-loop put-below-μ-loop
-
-put-below-loop-again : PutBelow put-below-lts.Need-loop-again
-unfolding stepIn
-put-below-loop-again t c = let closed = c .before .before in
-    let kids = closed .before .before .before .before in
-    let own = kids .before .before .before .before in
-    let opened = own .before .before .before .before in
-    let h = opened .before .before in
-    let l = h .before .before .before .before in
-    let s = l .before .before .before .before in
-    let sound = s .pre .1 in (
-      omega arith,
-      left-goes-on (left-goes-on (left-goes-on (left-goes-on (l .loop .inv .1) _ _
-          (branch-text (labelsIn (s .args .s .now)) (l .before .several-below .result) (s .args .t4) sound (s .args .v) (l .loop .k) (omega arith) (h .if1 .taken)) _ _
-          (opened .put-if .ensures)) _ _ refl _ _ (own .put-step .ensures)) _ _ refl _ _ (kids .put-below .ensures)) _ _ refl _ _ (closed .put-if2 .ensures),
-    )
-
-put-below-loop-again-2 : PutBelow put-below-lts.Need-loop-again-2
-unfolding stepIn
-put-below-loop-again-2 t c = let l = c .before .before .before .before in
-    let s = l .before .before .before .before in (
-      omega arith,
-      left-stays (l .loop .inv .1) _
-          (other-text (labelsIn (s .args .s .now)) (l .before .several-below .result) (s .args .t4) (s .pre .1) (s .args .v) (l .loop .k) (omega arith) (c .if1 .left)),
-    )
-
-put-below-returns : PutBelow put-below-lts.Need-returns
-put-below-returns t c = let l = c .before in
-    let s = l .before .before .before .before in
-    put-is _ _ _ _ (below-text _ _ _ _ (l .before .several-below .ensures))
-    (left-none (l .loop .inv .1) (end-text _ _ (s .args .t4) (s .pre .1) (s .args .v) (l .loop .k) (omega arith)))
-
-pub +put-below-spec : {M : Type 1} → statement M
-+put-below-spec = close μ-put-below λ t. put-below-lts.spec (
+-- what its calls ask and ensure, and a need of it given those
+abbrev put-below-calls : ℕ → put-below-lts.Claims
+put-below-calls t = (
   several-below-reads.Asked,
   several-below-reads.Learnt,
   put-if-reads.Asked,
@@ -94,23 +54,59 @@ pub +put-below-spec : {M : Type 1} → statement M
   put-below-below t,
   put-below.Post,
 )
-    (put-below-at t)
-    put-below.Post
-    put-below-Inv-loop
-    put-below-μ-loop
+
+abbrev PutBelow : (put-below-lts.Claims → In 2 put-below-kinds.ps → Out 2 put-below-kinds.ps put-below-kinds.r → put-below-lts.InvT-loop
+    → put-below-lts.MeasureT-loop → Type 0) → Type 0
+PutBelow need = (t : ℕ) → need (put-below-calls t) (put-below-at t) put-below.Post put-below-Inv-loop put-below-μ-loop
+
+put-below-asks : PutBelow put-below-lts.Need-put-below-requires
+put-below-asks t c κs =
+    let own = c .before .before .before in
+    let opened = own .before .before .before .before in
+    let l = opened .before .before .before .before .before .before in
+    (omega arith, l .before .before .before .before .pre .1)
+
+put-below-loop-again : PutBelow put-below-lts.Need-loop-again
+unfolding stepIn
+put-below-loop-again t c =
+    let closed = c .before .before in
+    let kids = closed .before .before .before .before in
+    let own = kids .before .before .before .before in
+    let opened = own .before .before .before .before in
+    let h = opened .before .before in
+    let l = h .before .before .before .before in
+    let s = l .before .before .before .before in
+    let here = branch-text _ _ _ (s .pre .1) _ (l .loop .k) (omega arith) (h .if1 .taken) in
+    let bracket = left-goes-on (l .loop .inv .1) _ _ here _ _ (opened .put-if .ensures) in
+    let step = left-goes-on bracket _ _ refl _ _ (own .put-step .ensures) in
+    let below = left-goes-on step _ _ refl _ _ (kids .put-below .ensures) in
+    (omega arith, left-goes-on below _ _ refl _ _ (closed .put-if2 .ensures))
+
+put-below-loop-again-2 : PutBelow put-below-lts.Need-loop-again-2
+unfolding stepIn
+put-below-loop-again-2 t c =
+    let l = c .before .before .before .before in
+    let sound = l .before .before .before .before .pre .1 in
+    (omega arith, left-stays (l .loop .inv .1) _ (other-text _ _ _ sound _ (l .loop .k) (omega arith) (c .if1 .left)))
+
+put-below-returns : PutBelow put-below-lts.Need-returns
+put-below-returns t c =
+    let l = c .before in
+    let sound = l .before .before .before .before .pre .1 in
+    put-is _ _ _ _ (below-text _ _ _ _ (l .before .several-below .ensures))
+    (left-none (l .loop .inv .1) (end-text _ _ _ sound _ (l .loop .k) (omega arith)))
+
+pub +put-below-spec : {M : Type 1} → statement M
++put-below-spec =
+    close μ-put-below
+    λ t. put-below-lts.spec (put-below-calls t) (put-below-at t) put-below.Post put-below-Inv-loop put-below-μ-loop
     (λ c κs. c .before .before .pre .1)
     (λ c. (omega arith, left-first _ _ _))
-    (λ c. omega arith)
-    (λ c. omega arith)
-    (λ c. omega arith)
-    (λ c. search needs)
+    (λ c. omega arith) (λ c. omega arith) (λ c. omega arith) (λ c. search needs)
+    (λ c κs. tt) (λ c κs. tt)
+    (put-below-asks t)
     (λ c κs. tt)
-    (λ c κs. tt)
-    (λ c κs. (omega arith, (c .before .before .before .before .before .before .before .before .before .before .before .before .before .before .before .before .before .pre .1)))
-    (λ c κs. tt)
-    (λ c. omega arith)
-    (put-below-loop-again t)
-    (λ c. omega arith)
-    (put-below-loop-again-2 t)
+    (λ c. omega arith) (put-below-loop-again t)
+    (λ c. omega arith) (put-below-loop-again-2 t)
     (λ c. left-same (c .before .loop .inv .1))
     (put-below-returns t)

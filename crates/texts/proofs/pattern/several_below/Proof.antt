@@ -22,17 +22,18 @@ loop-holds c = (omega arith, omega arith)
 
 loop-again : tie.Need-loop-again Inv-loop μ-loop
 unfolding stepIn
-loop-again c = let l = c .before .before .before .before in
-    (omega arith, branch-counted (l .before .args .t1) (l .before .pre) (l .before .args .v) (l .loop .k) (l .loop .n) _ (omega arith) (c .if1 .taken) (l .loop .inv .1))
+loop-again c =
+    let l = c .before .before .before .before in
+    (omega arith, branch-counted _ (l .before .pre) _ (l .loop .k) _ _ (omega arith) (c .if1 .taken) (l .loop .inv .1))
 
 loop-again-2 : tie.Need-loop-again-2 Inv-loop μ-loop
 unfolding stepIn
-loop-again-2 c = let l = c .before .before .before .before in
-    (omega arith, branch-not (l .before .args .t1) (l .before .pre) (l .before .args .v) (l .loop .k) (l .loop .n) _ (omega arith) (c .if1 .left) (l .loop .inv .1))
+loop-again-2 c =
+    let l = c .before .before .before .before in
+    (omega arith, branch-not _ (l .before .pre) _ (l .loop .k) _ _ (omega arith) (c .if1 .left) (l .loop .inv .1))
 
 returns : tie.Need-returns Inv-loop μ-loop
-returns c = let l = c .before in
-    all-counted (l .before .args .t1) (l .before .pre) (l .before .args .v) (l .loop .k) (l .loop .n) (omega arith) (l .loop .inv .1)
+returns c = all-counted _ (c .before .before .pre) _ (c .before .loop .k) _ (omega arith) (c .before .loop .inv .1)
 
 pub several-below-spec : {M : Type 1} → statement M
 several-below-spec =
