@@ -34,8 +34,9 @@ small-entries : (es : List Entry) → ((e : Entry) → List·Memᴰ e es → Wel
 unfolding entryOf
 small-entries [] sound x m = elim m [ ]
 small-entries (e ∷ es) sound x m =
+    let here = sound e (List·Memᴰ·head refl) in
     ⊎-elim
-    (λ q. omega (arith, ap (λ (y : Sections.Entry). size (y .pattern)) q, count-size (e .pattern) (sound e (List·Memᴰ·head refl)), sound e (List·Memᴰ·head refl) .few))
+    (λ q. omega (arith, ap (λ (y : Sections.Entry). size (y .pattern)) q, count-size (e .pattern) here, here .few))
     (small-entries es (λ y k. sound y (List·Memᴰ·tail k)) x)
     (List·Memᴰ·cases-cons m)
 

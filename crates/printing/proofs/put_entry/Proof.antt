@@ -8,7 +8,8 @@ use Rattle.printing.proofs.put_entry.Tie as tie
 
 returns : tie.Need-returns
 unfolding ascii entryText entryOf
-returns c = let end = c .before .before in
+returns c =
+    let end = c .before .before in
     let pattern = end .before .before .before .before .before in
     let colon = pattern .before .before .before .before in
     let members = colon .before .before .before .before .before in

@@ -20,7 +20,8 @@ loop-holds : tie.Need-loop-holds Inv-loop μ-loop
 loop-holds c = left-first _ _ _
 
 loop-again : tie.Need-loop-again Inv-loop μ-loop
-loop-again c = let d = c .before .before in
+loop-again c =
+    let d = c .before .before in
     let f = d .before .before .before .before in
     let asked = f .before .before .before in
     let l = asked .before .before in
@@ -29,7 +30,8 @@ loop-again c = let d = c .before .before in
     left-goes-on (left-goes-on (l .loop .inv) _ _ here _ _ (f .put-if .ensures)) _ _ refl _ _ (d .put-decimal .ensures)
 
 loop-again-2 : tie.Need-loop-again-2 Inv-loop μ-loop
-loop-again-2 c = let l = c .before .before .before in
+loop-again-2 c =
+    let l = c .before .before .before in
     let n = l .before .before .args .n in
     left-stays (l .loop .inv) _ (member-not _ n (l .loop .i) (omega arith) (l .loop .started) _ (c .before .is-member .ensures) (c .if1 .left))
 

@@ -8,7 +8,8 @@ use Rattle.printing.proofs.put_totals.Tie as tie
 
 returns : tie.Need-returns
 unfolding ascii totalsOf
-returns c = let rounds = c .before .before in
+returns c =
+    let rounds = c .before .before in
     let steps = rounds .before .before .before .before .before in
     let entries = steps .before .before .before .before .before in
     let subscriptions = entries .before .before .before .before .before in

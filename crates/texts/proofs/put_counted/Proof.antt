@@ -5,7 +5,8 @@ use Rattle.texts.proofs.put_counted.Statement.{statement}
 use Rattle.texts.proofs.put_counted.Tie as tie
 
 returns : tie.Need-returns
-returns c = let text = c .before .before in
+returns c =
+    let text = c .before .before in
     let number = text .before .before .before .before in
     put-then _ _ _ _ _ (number .put-decimal .ensures) (text .put-bytes .ensures)
 

@@ -7,7 +7,8 @@ use Rattle.texts.proofs.put_refused.Tie as tie
 
 returns : tie.Need-returns
 unfolding ascii refusedText
-returns c = let number = c .before .before in
+returns c =
+    let number = c .before .before in
     let text = number .before .before .before .before .before in
     put-then _ _ _ _ _ (text .put-bytes .ensures) (number .put-counted .ensures)
 

@@ -13,7 +13,8 @@ first-entries-requires c κs = subscriptions-stand _ _ (c .before .before .befor
 put-table-requires : tie.Need-put-table-requires
 put-table-requires c κs =
     let v = c .before .before .before .before in
-    (c .before .before .build .ensures .3, subscriptions-stand _ _ (v .before .before .before .pre) (v .subscriptions-in .ensures) .few)
+    let stand = subscriptions-stand _ _ (v .before .before .before .pre) (v .subscriptions-in .ensures) in
+    (c .before .before .build .ensures .3, stand .few)
 
 returns : tie.Need-returns
 returns c =
@@ -21,7 +22,9 @@ returns c =
     let b = t .before .before .before .build in
     let first = t .before .before .before .before .first-entries in
     let v = t .before .before .before .before .before in
-    t .put-table .ensures ∙ ap (put _) (text-built _ _ _ _ _ _ (subscriptions-stand _ _ (v .before .before .before .pre) (v .subscriptions-in .ensures) .counted) (first .ensures .0) (b .ensures .0) (b .ensures .1))
+    let stand = subscriptions-stand _ _ (v .before .before .before .pre) (v .subscriptions-in .ensures) in
+    t .put-table .ensures
+    ∙ ap (put _) (text-built _ _ _ _ _ _ (stand .counted) (first .ensures .0) (b .ensures .0) (b .ensures .1))
 
 pub put-built-spec : {M : Type 1} → statement M
 put-built-spec =

@@ -12,10 +12,18 @@ put-built-requires : tie.Need-put-built-requires
 put-built-requires c κs = part-stands _ _ _ (c .before .before .before .before .sheet .ensures) (c .before .before .x .given .1)
 
 returns-2 : tie.Need-returns-2
-returns-2 c = put-yes _ _ _ _ _ _ (omega arith) (c .before .before .before .before .before .before .before .sheet .ensures) (c .before .before .before .before .before .x .given .1) (c .before .before .before .before .before .before .before .before .before .pair-at .ensures .0) (c .before .before .put-built .ensures)
+returns-2 c =
+    let table = c .before .before in
+    let x = table .before .before .before in
+    let judged = x .before .before in
+    let limit = judged .before .before .pair-at .ensures .0 in
+    put-yes _ _ _ _ _ _ (omega arith) (judged .sheet .ensures) (x .x .given .1) limit (table .put-built .ensures)
 
 returns-3 : tie.Need-returns-3
-returns-3 c = put-no _ _ _ _ _ (omega arith) (c .before .before .before .before .before .before .before .sheet .ensures) (c .before .before .before .before .before .m .given .1) (c .before .before .put-refused2 .ensures)
+returns-3 c =
+    let refusal = c .before .before in
+    let m = refusal .before .before .before in
+    put-no _ _ _ _ _ (omega arith) (m .before .before .sheet .ensures) (m .m .given .1) (refusal .put-refused2 .ensures)
 
 pub put-text-spec : {M : Type 1} → statement M
 put-text-spec =
