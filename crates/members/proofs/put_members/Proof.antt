@@ -12,7 +12,8 @@ use Rattle.members.proofs.put_members.Statement.{statement}
 use Rattle.members.proofs.put_members.Tie as tie
 
 abbrev Inv-loop : tie.InvT-loop
-Inv-loop out₀ at members left₀ k₀ out left k = (k ≤ 8) × LeftToStore (sets out₀ at (numberBytes 8 left₀)) (at + 8) out (at + k) (numberBytes (8 - k) left)
+Inv-loop out₀ at members left₀ k₀ out left k =
+    (k ≤ 8) × LeftToStore (sets out₀ at (numberBytes 8 left₀)) (at + 8) out (at + k) (numberBytes (8 - k) left)
 
 abbrev μ-loop : tie.MeasureT-loop
 μ-loop out₀ at members left₀ k₀ out left k = 8 - k
@@ -24,10 +25,13 @@ slice-write-out : tie.Need-slice-write-out Inv-loop μ-loop
 slice-write-out c = omega (arith, c .before .loop .inv .1 .room)
 
 loop-again : tie.Need-loop-again Inv-loop μ-loop
-loop-again c = (omega arith, left-goes-on (c .before .loop .inv .1) (c .before .loop .left % 256 ∷ []) _ (number-goes-on 8 (c .before .loop .k) (c .before .loop .left) (c .loop-test .taken)) _ _ refl (omega arith))
+loop-again c =
+    let l = c .before .loop in
+    let next = number-goes-on 8 (l .k) (l .left) (c .loop-test .taken) in
+    (omega arith, left-goes-on (l .inv .1) (l .left % 256 ∷ []) _ next _ _ refl (omega arith))
 
 same-length : tie.Need-same-length Inv-loop μ-loop
-same-length c = left-same (c .before .loop .inv .1) ∙ length-sets (c .before .before .args .out .now) (c .before .before .args .at) (numberBytes 8 (c .before .before .args .members))
+same-length c = left-same (c .before .loop .inv .1) ∙ simp length-sets
 
 returns : tie.Need-returns Inv-loop μ-loop
 returns c = left-none (c .before .loop .inv .1) (number-end 8 (c .before .loop .k) (c .before .loop .left) (c .loop-test .left)) .1
