@@ -41,7 +41,9 @@ both-every n (e ∷ es) = go (ltb 0 (e .members)) (ltb (e .members) (2 ^ n)) (ev
 -- both parts make a table fair
 pub fair-parts : (ps : List Forest) (es : List Entry) → (every (isFit (length ps)) es && eachInOne 0 ps es) ≡ fair ps es
 unfolding fair
-fair-parts ps es = ap (λ (b : Bool). b && eachInOne 0 ps es) (both-every (length ps) es) ∙ and-assoc (every isPeopled es) (every (isWithin (length ps)) es) (eachInOne 0 ps es)
+fair-parts ps es =
+    ap (λ (b : Bool). b && eachInOne 0 ps es) (both-every (length ps) es)
+    ∙ and-assoc (every isPeopled es) (every (isWithin (length ps)) es) (eachInOne 0 ps es)
 
 -- ---- each subscription, from number i on
 module _ (ps : List Forest) (es : List Entry) (i : ℕ) (whole : Bool) (left : eachInOne i (drop i ps) es ≡ whole) where

@@ -3,7 +3,7 @@ use Prim.Native.Nat.{ℕ}
 use mathlib.Core.Path.{_≡_, refl, sym, ap, _∙_}
 use mathlib.Core.Bool.{Bool, true, false, _&&_}
 use mathlib.Core.List.{List}
-use lib.ListN.{length, getD, drop}
+use lib.ListN.{length}
 use Rattle.base.specs.Lists.{every}
 use Rattle.base.specs.Choice.{pick}
 use Rattle.base.specs.Loops.{andThen}

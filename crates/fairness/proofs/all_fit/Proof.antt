@@ -22,25 +22,14 @@ abbrev μ-loop : tie.MeasureT-loop
 loop-holds : tie.Need-loop-holds Inv-loop μ-loop
 loop-holds c = (omega arith, refl)
 
-mul-members-at : tie.Need-mul-members-at Inv-loop μ-loop
-mul-members-at c = omega (arith, c .before .before .before .pre .0 .few)
-
-element-copy-out-members-at : tie.Need-element-copy-out-members-at Inv-loop μ-loop
-element-copy-out-members-at c = omega (arith, c .before .before .before .pre .0 .few)
-
-members-fit-requires : tie.Need-members-fit-requires Inv-loop μ-loop
-members-fit-requires c κs = c .before .before .before .before .before .pre .1
-
 returns : tie.Need-returns Inv-loop μ-loop
 unfolding entryTaken
 returns c =
     let l = c .before .before .before .before .before in
     let stand = l .before .before .pre .0 in
     let here = stand .taken (l .loop .j) noEntry (omega arith) in
-    every-stops _ _ noEntry (l .loop .j) _ (l .loop .inv .1) (omega (arith, stand .counted)) (fit-here _ _ _ _ _ _ (here .0) (c .before .before .members-at .ensures) (c .before .members-fit .ensures) (not-true _ (c .if1 .taken)))
-
-add-j : tie.Need-add-j Inv-loop μ-loop
-add-j c = omega (arith, c .before .before .before .before .before .before .before .pre .0 .few)
+    every-stops _ _ noEntry (l .loop .j) _ (l .loop .inv .1) (omega (arith, stand .counted))
+    (fit-here _ _ _ _ _ _ (here .0) (c .before .before .members-at .ensures) (c .before .members-fit .ensures) (not-true _ (c .if1 .taken)))
 
 loop-again : tie.Need-loop-again Inv-loop μ-loop
 unfolding entryTaken
@@ -49,7 +38,8 @@ loop-again c =
     let stand = l .before .before .pre .0 in
     let here = stand .taken (l .loop .j) noEntry (omega arith) in (
       omega arith,
-      every-goes-on _ _ noEntry (l .loop .j) _ (l .loop .inv .1) (omega (arith, stand .counted)) (fit-here _ _ _ _ _ _ (here .0) (c .before .before .members-at .ensures) (c .before .members-fit .ensures) (not-false _ (c .if1 .left))),
+      every-goes-on _ _ noEntry (l .loop .j) _ (l .loop .inv .1) (omega (arith, stand .counted))
+          (fit-here _ _ _ _ _ _ (here .0) (c .before .before .members-at .ensures) (c .before .members-fit .ensures) (not-false _ (c .if1 .left))),
     )
 
 returns-2 : tie.Need-returns-2 Inv-loop μ-loop
@@ -58,5 +48,12 @@ returns-2 c = every-ends _ _ noEntry (c .before .loop .j) _ (c .before .loop .in
 pub all-fit-spec : {M : Type 1} → statement M
 all-fit-spec =
     tie.close
-    (tie.spec Inv-loop μ-loop loop-holds mul-members-at element-copy-out-members-at (λ c κs. search needs)
-    members-fit-requires returns add-j (λ c. omega arith) loop-again returns-2)
+    (tie.spec Inv-loop μ-loop
+    loop-holds
+    (λ c. omega (arith, c .before .before .before .pre .0 .few)) (λ c. omega (arith, c .before .before .before .pre .0 .few))
+    -- what members_at and members_fit ask
+    (λ c κs. search needs) (λ c κs. c .before .before .before .before .before .pre .1)
+    returns
+    (λ c. omega (arith, c .before .before .before .before .before .before .before .pre .0 .few)) (λ c. omega arith)
+    loop-again
+    returns-2)

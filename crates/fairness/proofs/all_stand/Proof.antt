@@ -23,12 +23,6 @@ abbrev μ-loop : tie.MeasureT-loop
 loop-holds : tie.Need-loop-holds Inv-loop μ-loop
 loop-holds c = (omega arith, refl)
 
-mul-pattern-at : tie.Need-mul-pattern-at Inv-loop μ-loop
-mul-pattern-at c = omega (arith, c .before .before .before .before .pre .0 .few)
-
-element-copy-out-pattern-at : tie.Need-element-copy-out-pattern-at Inv-loop μ-loop
-element-copy-out-pattern-at c = omega (arith, c .before .before .before .before .pre .0 .few)
-
 stands-requires : tie.Need-stands-requires Inv-loop μ-loop
 stands-requires c κs =
     let l = c .before .before .before in
@@ -42,9 +36,6 @@ returns c =
     let here = pattern-here _ _ stand (l .loop .i) _ (omega arith) (c .before .before .pattern-at .ensures) in
     each-stops _ _ (l .loop .i) _ (l .loop .inv .1) _ _ (omega (arith, stand .counted)) (not-true _ (c .if1 .taken))
     (c .before .stands .ensures) (here .0)
-
-add-i : tie.Need-add-i Inv-loop μ-loop
-add-i c = omega (arith, c .before .before .before .before .before .before .before .before .pre .0 .few)
 
 loop-again : tie.Need-loop-again Inv-loop μ-loop
 loop-again c =
@@ -62,5 +53,12 @@ returns-2 c = each-ends _ _ (c .before .loop .i) _ (c .before .loop .inv .1) (om
 pub all-stand-spec : {M : Type 1} → statement M
 all-stand-spec =
     tie.close
-    (tie.spec Inv-loop μ-loop loop-holds mul-pattern-at element-copy-out-pattern-at (λ c κs. search needs)
-    stands-requires returns add-i (λ c. omega arith) loop-again returns-2)
+    (tie.spec Inv-loop μ-loop
+    loop-holds
+    (λ c. omega (arith, c .before .before .before .before .pre .0 .few)) (λ c. omega (arith, c .before .before .before .before .pre .0 .few))
+    (λ c κs. search needs)
+    stands-requires
+    returns
+    (λ c. omega (arith, c .before .before .before .before .before .before .before .before .pre .0 .few)) (λ c. omega arith)
+    loop-again
+    returns-2)

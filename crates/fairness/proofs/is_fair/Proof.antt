@@ -22,8 +22,9 @@ all-stand-requires c κs =
 
 returns-2 : tie.Need-returns-2
 returns-2 c =
-    let start = c .before .before .before .before .before .before in
-    all-fit _ _ _ _ _ (start .pre .0 .counted) (c .before .before .before .all-fit .ensures) (not-false _ (c .before .before .if1 .left)) (c .all-stand .ensures)
+    let fit = c .before .before .before in
+    all-fit _ _ _ _ _ (fit .before .before .before .pre .0 .counted) (fit .all-fit .ensures) (not-false _ (c .before .before .if1 .left))
+    (c .all-stand .ensures)
 
 pub is-fair-spec : {M : Type 1} → statement M
 is-fair-spec =

@@ -22,26 +22,11 @@ abbrev μ-loop : tie.MeasureT-loop
 loop-holds : tie.Need-loop-holds Inv-loop μ-loop
 loop-holds c = (omega arith, refl)
 
-mul-weigh : tie.Need-mul-weigh Inv-loop μ-loop
-mul-weigh c = omega (arith, c .before .before .before .pre .0 .few)
-
-element-copy-out-weigh : tie.Need-element-copy-out-weigh Inv-loop μ-loop
-element-copy-out-weigh c = omega (arith, c .before .before .before .pre .0 .few)
-
-mul-weigh-2 : tie.Need-mul-weigh-2 Inv-loop μ-loop
-mul-weigh-2 c = omega (arith, c .before .before .before .before .pre .0 .few)
-
-array-read-weigh : tie.Need-array-read-weigh Inv-loop μ-loop
-array-read-weigh c = omega (arith, c .before .before .before .before .pre .0 .few)
-
 weigh-requires : tie.Need-weigh-requires Inv-loop μ-loop
 weigh-requires c κs =
     let l = c .before .before in
     let pre = l .before .before .pre in
     (pre .1 .each (l .loop .j) (omega arith), pre .0 .taken (l .loop .j) noEntry (omega arith) .1, pre .2, pre .3)
-
-add-j : tie.Need-add-j Inv-loop μ-loop
-add-j c = omega (arith, c .before .before .before .before .before .pre .0 .few)
 
 loop-again : tie.Need-loop-again Inv-loop μ-loop
 loop-again c =
@@ -49,17 +34,23 @@ loop-again c =
     let stand = l .before .before .pre .0 in
     let here = stand .taken (l .loop .j) noEntry (omega arith) in (
       omega arith,
-      rw (c .weigh .ensures, here .0) (along-goes-on _ _ noEntry (l .loop .j) (l .loop .found) _ (l .loop .inv .1) (omega (arith, stand .counted))),
+      rw (c .weigh .ensures, here .0) (along-goes-on _ _ noEntry (l .loop .j) _ _ (l .loop .inv .1) (omega (arith, stand .counted))),
     )
 
 returns : tie.Need-returns Inv-loop μ-loop
 returns c =
-    let start = c .before .before .before in
-    ap (λ (n : ℕ). eqb n 1) (along-ends _ _ noEntry (c .before .loop .j) (c .before .loop .found) _ (c .before .loop .inv .1) (omega (arith, start .pre .0 .counted)))
-    ∙ one-weighed _ _ _
+    let l = c .before in
+    let all = along-ends _ _ noEntry (l .loop .j) _ _ (l .loop .inv .1) (omega (arith, l .before .before .pre .0 .counted)) in
+    ap (λ (n : ℕ). eqb n 1) all ∙ one-weighed _ _ _
 
 pub stands-spec : {M : Type 1} → statement M
 stands-spec =
     tie.close
-    (tie.spec Inv-loop μ-loop loop-holds mul-weigh element-copy-out-weigh mul-weigh-2 array-read-weigh
-    weigh-requires add-j (λ c. omega arith) loop-again returns)
+    (tie.spec Inv-loop μ-loop
+    loop-holds
+    (λ c. omega (arith, c .before .before .before .pre .0 .few)) (λ c. omega (arith, c .before .before .before .pre .0 .few))
+    (λ c. omega (arith, c .before .before .before .before .pre .0 .few)) (λ c. omega (arith, c .before .before .before .before .pre .0 .few))
+    weigh-requires
+    (λ c. omega (arith, c .before .before .before .before .before .pre .0 .few)) (λ c. omega arith)
+    loop-again
+    returns)

@@ -2,12 +2,9 @@
 use native.Mathlib.Omega.{arith}
 use borrow.Author.Needs.{needs}
 use borrow.Author.Tests.{not-true, not-false}
-use mathlib.Core.Path.{ap, _∙_}
 use mathlib.Core.Bool.{true, false}
 use Rattle.base.specs.Choice.{pick}
-use Rattle.meaning.specs.Covering.{covers}
-use Rattle.shapes.specs.Shapes.{patternOf, entryOf, WellFormed}
-use Rattle.shapes.specs.declared.Entry.{Entry}
+use Rattle.shapes.specs.Shapes.{entryOf, WellFormed}
 use Rattle.fairness.specs.Weighing.{weigh-passes, weigh-again, weigh-first}
 use Rattle.fairness.proofs.weigh.Statement.{statement}
 use Rattle.fairness.proofs.weigh.Tie as tie
@@ -27,21 +24,26 @@ returns-2 c =
 covers-requires : tie.Need-covers-requires
 covers-requires c κs =
     let start = c .before .before .before .before .before in
-    let sound : WellFormed (c .entry-at .result .pattern) = rw (c .entry-at .ensures) (start .pre .1) in search (sound, start .pre .3)
+    let sound : WellFormed (c .entry-at .result .pattern) = rw (c .entry-at .ensures) (start .pre .1) in
+    search (sound, start .pre .3)
 
 returns-3 : tie.Need-returns-3
 unfolding entryOf pick
 returns-3 c =
-    let asked = c .before .before .before .before .before in
-    let s = asked .before .before in
-    weigh-first _ _ _ _ _ (s .pre .0) _ (asked .is-member .ensures) (not-false _ (c .before .before .before .before .if1 .left)) (omega arith) true _ (c .before .covers .ensures ∙ ap (λ (e : Entry). covers (patternOf (e .pattern)) (patternOf (s .args .p))) (c .before .before .entry-at .ensures)) (c .if3 .taken)
+    let member = c .before .before .before .before in
+    let asked = member .before in
+    let said = rw (c .before .before .entry-at .ensures) at (c .before .covers .ensures) in
+    weigh-first _ _ _ _ _ (asked .before .before .pre .0) _ (asked .is-member .ensures) (not-false _ (member .if1 .left)) (omega arith)
+    true _ said (c .if3 .taken)
 
 returns-4 : tie.Need-returns-4
 unfolding entryOf pick
 returns-4 c =
-    let asked = c .before .before .before .before .before in
-    let s = asked .before .before in
-    weigh-first _ _ _ _ _ (s .pre .0) _ (asked .is-member .ensures) (not-false _ (c .before .before .before .before .if1 .left)) (omega arith) false _ (c .before .covers .ensures ∙ ap (λ (e : Entry). covers (patternOf (e .pattern)) (patternOf (s .args .p))) (c .before .before .entry-at .ensures)) (c .if3 .left)
+    let member = c .before .before .before .before in
+    let asked = member .before in
+    let said = rw (c .before .before .entry-at .ensures) at (c .before .covers .ensures) in
+    weigh-first _ _ _ _ _ (asked .before .before .pre .0) _ (asked .is-member .ensures) (not-false _ (member .if1 .left)) (omega arith)
+    false _ said (c .if3 .left)
 
 pub weigh-spec : {M : Type 1} → statement M
 weigh-spec =
