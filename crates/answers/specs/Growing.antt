@@ -28,7 +28,9 @@ module _ (t : Table) (sound : WellFormedTable t) (e : Entry) (room : t .count < 
   -- its entries
   grown-entries : entriesIn grown ≡ entriesIn t ++ (e ∷ [])
   unfolding entriesIn
-  grown-entries = ap (λ (n : ℕ). take n (set (t .entries) (t .count) e)) (add-one (t .count)) ∙ take-suc-set (t .entries) (t .count) e (omega (arith, sound .full))
+  grown-entries =
+      ap (λ (n : ℕ). take n (set (t .entries) (t .count) e)) (add-one (t .count))
+      ∙ take-suc-set (t .entries) (t .count) e (omega (arith, sound .full))
 
   -- what its entries stand for
   pub grown-table : tableOf grown ≡ tableOf t ++ (entryOf e ∷ [])
@@ -75,11 +77,17 @@ module _ (ps : List Forest) where
   unfolding entryOf
   first-more i t u e h z grew counted sound one is =
       let long : length (take i ps) ≡ i = length-take-le i ps (omega arith) in
-      let which : entryOf e ≡ record { members = 2 ^ (0 + length (take i ps)); pattern = getD ps i none } =
+      let last : Sections.Entry = record { members = 2 ^ (0 + length (take i ps)); pattern = getD ps i none } in
+      let which : entryOf e ≡ last =
       ap₂ (λ (n : ℕ) (p : Forest). record { members = n; pattern = p }) (one ∙ ap (λ (n : ℕ). 2 ^ n) (omega arith)) is in
-      let more : entriesFrom 0 (take (i + 1) ps) ≡ entriesFrom 0 (take i ps) ++ (record { members = 2 ^ (0 + length (take i ps)); pattern = getD ps i none } ∷ []) =
+      let more : entriesFrom 0 (take (i + 1) ps) ≡ entriesFrom 0 (take i ps) ++ (last ∷ []) =
       ap (λ (n : ℕ). entriesFrom 0 (take n ps)) (add-one i) ∙ ap (entriesFrom 0) (take-suc ps i none h) ∙ entries-last 0 (take i ps) (getD ps i none) in
-      record { within = omega arith; counted = omega (arith, z .counted); are = grew ∙ ap₂ (λ (l : List Sections.Entry) (x : Sections.Entry). l ++ (x ∷ [])) (z .are) which ∙ sym more; sound = sound }
+      record {
+        within = omega arith;
+        counted = omega (arith, z .counted);
+        are = grew ∙ ap₂ (λ (l : List Sections.Entry) (x : Sections.Entry). l ++ (x ∷ [])) (z .are) which ∙ sym more;
+        sound = sound;
+      }
 
   -- all of them
   pub first-all : (i : ℕ) (t : Table) → length ps ≤ i → FirstOnes i t → tableOf t ≡ entriesFrom 0 ps

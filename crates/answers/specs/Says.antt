@@ -40,7 +40,10 @@ markedSays p clipped = writes clipped (patternBytes p)
 
 -- the merge of i with j
 unfoldable pub mergeSays : Sheet → ℕ → ℕ → Writing Bool
-mergeSays sh i j = pick (bothThere sh i j) (markedSays (merge (subscription sh i) (subscription sh j) .pattern) (merge (subscription sh i) (subscription sh j) .clipped)) (refuses notThere)
+mergeSays sh i j =
+    pick (bothThere sh i j)
+    (markedSays (merge (subscription sh i) (subscription sh j) .pattern) (merge (subscription sh i) (subscription sh j) .clipped))
+    (refuses notThere)
 
 -- a table with its rounds
 unfoldable pub tableSays : Table → Writing ℕ

@@ -1,4 +1,4 @@
--- `build` meets its contract: the sheet is judged first, and a refusal leaves the output as found.
+-- `answers::build` meets its contract: the sheet is judged first, and a refusal leaves the output as found.
 use mathlib.Core.Path.{sym, _∙_}
 use Rattle.reading.specs.SheetJudged.{sheet-stands}
 use Rattle.answers.specs.Says.{build-said, build-refused}

@@ -1,4 +1,4 @@
--- `covers` meets its contract: the sheet is judged first.
+-- `answers::covers` meets its contract: the sheet is judged first.
 use mathlib.Core.Path.{sym, _∙_}
 use Rattle.reading.specs.SheetJudged.{sheet-stands}
 use Rattle.answers.specs.Says.{covers-said, covers-refused}

@@ -1,4 +1,4 @@
--- `merge` meets its contract: the sheet is judged first, and a refusal leaves the output as found.
+-- `answers::merge` meets its contract: the sheet is judged first, and a refusal leaves the output as found.
 use mathlib.Core.Path.{sym, _∙_}
 use Rattle.reading.specs.SheetJudged.{sheet-stands}
 use Rattle.answers.specs.Says.{merge-said, merge-refused}

@@ -1,4 +1,4 @@
--- `build_first` meets its contract: the build from one entry for each subscription, where there is room and where there is none.
+-- `answers::built::build_first` meets its contract: the build from one entry for each subscription, where there is room and where there is none.
 use Rattle.subscriptions.specs.Subscribed.{subscriptions-stand}
 use Rattle.answers.specs.Outcome.{build-is, build-same, build-written, build-no-room}
 use borrow.Author.Needs.{needs}

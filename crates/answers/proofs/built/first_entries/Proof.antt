@@ -1,4 +1,4 @@
--- `first_entries` meets its contract: so far there is one entry for each of the first subscriptions.
+-- `answers::built::first_entries` meets its contract: so far there is one entry for each of the first subscriptions.
 use Prim.Native.Nat.{_-_}
 use mathlib.Core.Path.{refl}
 use native.Mathlib.Omega.{arith}

@@ -1,4 +1,4 @@
--- `covers_numbered` meets its contract: both numbers are looked at first.
+-- `answers::covered::covers_numbered` meets its contract: both numbers are looked at first.
 use native.Mathlib.Omega.{arith}
 use Rattle.subscriptions.specs.Subscribed.{subscriptions-stand}
 use Rattle.answers.specs.Says.{both-there, first-not-there, second-not-there, covers-there, covers-not-there}

@@ -1,4 +1,4 @@
--- `merge_numbered` meets its contract: both numbers are looked at first, and a refusal leaves the output as found.
+-- `answers::merged::merge_numbered` meets its contract: both numbers are looked at first, and a refusal leaves the output as found.
 use native.Mathlib.Omega.{arith}
 use Rattle.subscriptions.specs.Subscribed.{subscriptions-stand}
 use Rattle.answers.specs.Says.{both-there, first-not-there, second-not-there}

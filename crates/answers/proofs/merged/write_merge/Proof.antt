@@ -1,4 +1,4 @@
--- `write_merge` meets its contract, where there is room and where there is none.
+-- `answers::merged::write_merge` meets its contract, where there is room and where there is none.
 use Rattle.answers.specs.Outcome.{merge-written, merge-no-room}
 use borrow.Author.Needs.{needs}
 use Rattle.answers.proofs.merged.write_merge.Statement.{statement}

@@ -1,4 +1,4 @@
--- `numbered` meets its contract: what stands at the place of a subscription is its pattern.
+-- `answers::subscribed::numbered` meets its contract: what stands at the place of a subscription is its pattern.
 use mathlib.Core.Path.{_∙_, ap}
 use Rattle.meaning.specs.Calls.{subscription}
 use Rattle.shapes.specs.Shapes.{patternOf}
