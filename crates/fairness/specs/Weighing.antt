@@ -1,17 +1,24 @@
 -- Whether a subscription is in exactly one entry, which covers it: the entries weighed one after the other.
-use Prim.Native.Nat.{ℕ}
+use Prim.Native.Nat.{ℕ, _+_, _≤_, _<_}
 use mathlib.Core.Path.{_≡_, refl, sym, ap, _∙_}
 use mathlib.Core.Bool.{Bool, true, false}
 use mathlib.Core.List.{List, [], _∷_}
+use native.Mathlib.Omega.{arith}
 use lib.Dec.{eqb}
+use lib.ListN.{length, getD, drop}
 use borrow.Author.Tests.{eq-eqb, ne-eqb}
 use Rattle.base.specs.Choice.{pick}
 use Rattle.base.specs.Lists.{keep}
-use Rattle.base.specs.Along.{foldAlong}
+use Rattle.base.specs.Along.{foldAlong, along-goes-on, along-ends}
 use Rattle.meaning.specs.Forest.{Forest}
 use Rattle.meaning.specs.Sections.{Entry}
+use Rattle.meaning.specs.Building.{noEntry}
 use Rattle.meaning.specs.Covering.{covers}
 use Rattle.meaning.specs.Fair.{isMember, hasMember, entriesOf, oneThatCovers}
+use Rattle.shapes.specs.Shapes.{entryOf}
+use Rattle.tables.specs.declared.Entries.{Entries}
+use Rattle.tables.specs.TableSection.{entryTaken, tableAt}
+use Rattle.tables.specs.TableJudged.{EntriesStand}
 
 module _ (i : ℕ) (p : Forest) where
   -- 0 while no entry has subscription i as a member, 1 after one that covers its pattern, 2 after any other
@@ -46,7 +53,7 @@ module _ (i : ℕ) (p : Forest) where
   not-covered e (f ∷ es) h = refl
 
   -- exactly one, and it covers
-  pub one-weighed : (es : List Entry) → eqb (foldAlong weighed es 0) 1 ≡ oneThatCovers p (entriesOf i es)
+  one-weighed : (es : List Entry) → eqb (foldAlong weighed es 0) 1 ≡ oneThatCovers p (entriesOf i es)
   unfolding foldAlong weighed oneThatCovers entriesOf keep pick
   one-weighed [] = refl
   one-weighed (e ∷ es) = go (hasMember i e) (one-weighed es)
@@ -81,3 +88,28 @@ module _ (i : ℕ) (p : Forest) (e : Entry) (members found : ℕ) (same : member
   pub weigh-first : r ≡ true → found ≡ 0 → (b said : Bool) → said ≡ covers (e .pattern) p → said ≡ b → pick b 1 2 ≡ weighed i p e found
   unfolding weighed pick
   weigh-first h n b said c d = sym (rw (has true h, eq-eqb found 0 n, sym c ∙ d))
+
+-- the entries from j on, weighed on what was found, give what all give from the start
+pub record WeighingEntries (i : ℕ) (p : Forest) (t : List ℕ) (v : Entries) (j found : ℕ) : Type 0 where
+  pub stand : EntriesStand t v
+  pub left : foldAlong (weighed i p) (drop j (tableAt t)) found ≡ foldAlong (weighed i p) (tableAt t) 0
+
+module _ {i : ℕ} {p : Forest} {t : List ℕ} {v : Entries} where
+  -- all are left
+  pub weighing-starts : EntriesStand t v → WeighingEntries i p t v 0 0
+  weighing-starts stand = record { stand = stand; left = refl }
+
+  module _ {j found : ℕ} (turn : WeighingEntries i p t v j found) where
+    -- the entry at the next place is weighed
+    pub weighing-goes-on : {more : ℕ} → j < v .count → more ≡ weighed i p (entryOf (entryTaken t (getD (v .places) j 0))) found
+        → WeighingEntries i p t v (j + 1) more
+    weighing-goes-on h e =
+        let inside : j < length (tableAt t) = omega (arith, turn .stand .counted) in
+        let here = turn .stand .taken j noEntry h .0 in
+        record { stand = turn .stand; left = rw (e, here) (along-goes-on (weighed i p) (tableAt t) noEntry j found _ (turn .left) inside) }
+
+    -- none is left
+    pub weighing-ends : v .count ≤ j → eqb found 1 ≡ oneThatCovers p (entriesOf i (tableAt t))
+    weighing-ends h =
+        let all = along-ends (weighed i p) (tableAt t) noEntry j found _ (turn .left) (omega (arith, turn .stand .counted)) in
+        ap (λ (n : ℕ). eqb n 1) all ∙ one-weighed i p (tableAt t)
