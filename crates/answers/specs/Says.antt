@@ -24,6 +24,8 @@ use Rattle.shapes.specs.declared.Pattern.{Pattern}
 use Rattle.reading.specs.SheetPlaces.{sheetAt}
 use Rattle.reading.specs.SheetSection.{sheetPlace}
 use Rattle.reading.specs.SheetJudged.{sheet-judged}
+use Rattle.subscriptions.specs.declared.Subscriptions.{Subscriptions}
+use Rattle.subscriptions.specs.Subscribed.{SubscriptionsStand}
 use Rattle.places.specs.Reached.{reached}
 
 -- both numbers are those of subscriptions
@@ -55,20 +57,20 @@ buildSays sh limit = tableSays (build limit (sh .patterns))
 
 -- ---- the two numbers
 
-module _ (sh : Sheet) (i j : ℕ) where
-  -- below the number of patterns both are there
-  pub both-there : i < length (sh .patterns) → j < length (sh .patterns) → bothThere sh i j ≡ true
+module _ {s : List ℕ} {v : Subscriptions} (stand : SubscriptionsStand s v) (i j : ℕ) where
+  -- below the count of subscriptions both are there
+  pub both-there : i < v .count → j < v .count → bothThere (sheetAt s) i j ≡ true
   unfolding bothThere isSubscription
-  both-there h k = and-both _ _ (lt-ltb i (length (sh .patterns)) h) (lt-ltb j (length (sh .patterns)) k)
+  both-there h k = rw (← (stand .counted)) (and-both _ _ (lt-ltb i (v .count) h) (lt-ltb j (v .count) k))
 
-  -- from that number on one is not
-  pub first-not-there : length (sh .patterns) ≤ i → bothThere sh i j ≡ false
+  -- from that count on one is not
+  pub first-not-there : v .count ≤ i → bothThere (sheetAt s) i j ≡ false
   unfolding bothThere isSubscription
-  first-not-there h = rw (le-ltb i (length (sh .patterns)) h)
+  first-not-there h = rw (← (stand .counted), le-ltb i (v .count) h)
 
-  pub second-not-there : length (sh .patterns) ≤ j → bothThere sh i j ≡ false
+  pub second-not-there : v .count ≤ j → bothThere (sheetAt s) i j ≡ false
   unfolding bothThere isSubscription
-  second-not-there h = rw (le-ltb j (length (sh .patterns)) h) (no-second (ltb i (length (sh .patterns))))
+  second-not-there h = rw (← (stand .counted), le-ltb j (v .count) h) (no-second (ltb i (v .count)))
     where
       no-second : (b : Bool) → (b && false) ≡ false
       no-second true = refl

@@ -9,14 +9,14 @@ use Rattle.answers.proofs.covered.covers_numbered.Tie as tie
 returns : tie.Need-returns
 returns c =
     let start = c .before .before .before in
-    let z = subscriptions-stand _ _ (start .pre) (c .before .subscriptions-in .ensures) in
-    covers-not-there _ _ _ (first-not-there _ (start .args .i) (start .args .j) (omega (arith, z .counted)))
+    let stand = subscriptions-stand _ _ (start .pre) (c .before .subscriptions-in .ensures) in
+    covers-not-there _ _ _ (first-not-there stand _ _ (omega arith))
 
 returns-2 : tie.Need-returns-2
 returns-2 c =
     let start = c .before .before .before .before in
-    let z = subscriptions-stand _ _ (start .pre) (c .before .before .subscriptions-in .ensures) in
-    covers-not-there _ _ _ (second-not-there _ (start .args .i) (start .args .j) (omega (arith, z .counted)))
+    let stand = subscriptions-stand _ _ (start .pre) (c .before .before .subscriptions-in .ensures) in
+    covers-not-there _ _ _ (second-not-there stand _ _ (omega arith))
 
 numbered-requires : tie.Need-numbered-requires
 numbered-requires c κs =
@@ -31,8 +31,8 @@ numbered-requires-2 c κs =
 returns-3 : tie.Need-returns-3
 returns-3 c =
     let start = c .before .before .before .before .before .before .before in
-    let z = subscriptions-stand _ _ (start .pre) (c .before .before .before .before .before .subscriptions-in .ensures) in
-    covers-there _ _ _ _ _ _ (both-there _ (start .args .i) (start .args .j) (omega (arith, z .counted)) (omega (arith, z .counted)))
+    let stand = subscriptions-stand _ _ (start .pre) (c .before .before .before .before .before .subscriptions-in .ensures) in
+    covers-there _ _ _ _ _ _ (both-there stand _ _ (omega arith) (omega arith))
     (c .before .before .numbered .ensures .0) (c .before .numbered2 .ensures .0) (c .covers .ensures)
 
 pub covers-numbered-spec : {M : Type 1} → statement M

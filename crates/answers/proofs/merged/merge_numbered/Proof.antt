@@ -10,14 +10,14 @@ use Rattle.answers.proofs.merged.merge_numbered.Tie as tie
 returns : tie.Need-returns
 returns c =
     let start = c .before .before .before .before in
-    let z = subscriptions-stand _ _ (start .pre) (c .before .subscriptions-in .ensures) in
-    merge-refuses _ _ _ (merge-not-there _ _ _ (first-not-there _ (start .args .i) (start .args .j) (omega (arith, z .counted))))
+    let stand = subscriptions-stand _ _ (start .pre) (c .before .subscriptions-in .ensures) in
+    merge-refuses _ _ _ (merge-not-there _ _ _ (first-not-there stand _ _ (omega arith)))
 
 returns-2 : tie.Need-returns-2
 returns-2 c =
     let start = c .before .before .before .before .before in
-    let z = subscriptions-stand _ _ (start .pre) (c .before .before .subscriptions-in .ensures) in
-    merge-refuses _ _ _ (merge-not-there _ _ _ (second-not-there _ (start .args .i) (start .args .j) (omega (arith, z .counted))))
+    let stand = subscriptions-stand _ _ (start .pre) (c .before .before .subscriptions-in .ensures) in
+    merge-refuses _ _ _ (merge-not-there _ _ _ (second-not-there stand _ _ (omega arith)))
 
 numbered-requires : tie.Need-numbered-requires
 numbered-requires c κs =
@@ -33,9 +33,10 @@ returns-3 : tie.Need-returns-3
 returns-3 c =
     let m = c .before .before .before .before in
     let start = m .before .before .before .before .before .before .before .before in
-    let z = subscriptions-stand _ _ (start .pre) (m .before .before .before .before .before .subscriptions-in .ensures) in
-    merge-same _ _ _ (merge-is _ _ _ _ _ _ (both-there _ (start .args .i) (start .args .j) (omega (arith, z .counted)) (omega (arith, z .counted)))
-    (m .before .before .numbered .ensures .0) (m .before .numbered2 .ensures .0) (m .merge .ensures)) _ _ (c .before .before .write-merge .ensures)
+    let stand = subscriptions-stand _ _ (start .pre) (m .before .before .before .before .before .subscriptions-in .ensures) in
+    let is = merge-is _ _ _ _ _ _ (both-there stand (start .args .i) (start .args .j) (omega arith) (omega arith))
+    (m .before .before .numbered .ensures .0) (m .before .numbered2 .ensures .0) (m .merge .ensures) in
+    merge-same _ _ _ is _ _ (c .before .before .write-merge .ensures)
 
 pub merge-numbered-spec : {M : Type 1} → statement M
 merge-numbered-spec =
