@@ -5,7 +5,6 @@ use mathlib.Core.Bool.{Bool, true, false, _&&_}
 use mathlib.Core.List.{List}
 use borrow.Author.Tests.{lt-ltb, le-ltb}
 use lib.Dec.{ltb}
-use lib.ListN.{length}
 use Rattle.base.specs.Bools.{and-both}
 use Rattle.base.specs.Choice.{pick, pick-true, pick-false}
 use Rattle.base.specs.declared.Cur.the-variants.{At, No}

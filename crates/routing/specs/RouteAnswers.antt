@@ -2,7 +2,6 @@
 use Prim.Native.Nat.{ℕ, _+_}
 use mathlib.Core.Path.{_≡_, sym, ap, _∙_}
 use mathlib.Core.List.{List}
-use lib.ListN.{getD}
 use Rattle.base.specs.declared.Cur.the-variants.{At, No}
 use Rattle.meaning.specs.Sections.{Sheet, Document, document, Node, Entry}
 use Rattle.meaning.specs.Routing.{plainRoute, tableRoute, tried}

@@ -17,15 +17,6 @@ Inv-loop out₀ s subscriptions rounds t steps next₀ i₀ out next i =
 abbrev μ-loop : tie.MeasureT-loop
 μ-loop out₀ s subscriptions rounds t steps next₀ i₀ out next i = t .count - i
 
-mul-e : tie.Need-mul-e Inv-loop μ-loop
-mul-e c = omega (arith, c .before .before .before .before .before .before .before .before .before .pre .0 .few)
-
-element-copy-out-e : tie.Need-element-copy-out-e Inv-loop μ-loop
-element-copy-out-e c = omega (arith, c .before .before .before .before .before .before .before .before .before .pre .0 .few)
-
-add-i : tie.Need-add-i Inv-loop μ-loop
-add-i c = omega (arith, c .before .before .before .before .before .before .before .before .before .before .pre .0 .few)
-
 put-entry-requires : tie.Need-put-entry-requires Inv-loop μ-loop
 put-entry-requires c κs =
     let l = c .before .before .before in
@@ -60,7 +51,10 @@ put-table-spec =
     -- what steps_together and put_totals ask
     (λ c κs. c .before .before .pre .0) (λ c κs. tt)
     (λ c. left-first _ _ _)
-    mul-e element-copy-out-e add-i
+    -- fewer than 64 entries came before this one
+    (λ c. omega (arith, c .before .before .before .before .before .before .before .before .before .pre .0 .few))
+    (λ c. omega (arith, c .before .before .before .before .before .before .before .before .before .pre .0 .few))
+    (λ c. omega (arith, c .before .before .before .before .before .before .before .before .before .before .pre .0 .few))
     put-entry-requires (λ c. omega arith)
     loop-again
     same-length
