@@ -3,11 +3,15 @@
 use Prim.Native.Nat.{ℕ}
 use mathlib.Core.Path.{_≡_}
 use mathlib.Core.List.{List}
-use Rattle.meaning.specs.Given.{byNumber}
+use Rattle.meaning.specs.Given.{byNumber, RouteValues}
 use Rattle.meaning.specs.Promises.{PlainRouteGives, TableRouteGives}
 use Rattle.meaning.specs.Sharp.{only-one, by-number-tells}
 use Rattle.hub_c.specs.declared.PlainRoute.{PlainRoute}
 use Rattle.hub_c.specs.declared.TableRoute.{TableRoute}
+
+-- the set and the tries
+abbrev routed : TableRoute → RouteValues
+routed x = record { set = x .delivered; tried = x .tried }
 
 module _ (s d : List ℕ) where
   pub plain-route-sharp : (x y : PlainRoute) → PlainRouteGives s d (byNumber (x .number) (x .delivered))
@@ -16,10 +20,8 @@ module _ (s d : List ℕ) where
       let same = by-number-tells (x .number) (y .number) (x .delivered) (y .delivered) (only-one e f) in
       λ i. record { number = same .0 i; delivered = same .1 i }
 
-  pub table-route-sharp : (t : List ℕ) (x y : TableRoute)
-      → TableRouteGives s t d (byNumber (x .number) (record { set = x .delivered; tried = x .tried }))
-      → TableRouteGives s t d (byNumber (y .number) (record { set = y .delivered; tried = y .tried }))
-      → x ≡ y
+  pub table-route-sharp : (t : List ℕ) (x y : TableRoute) → TableRouteGives s t d (byNumber (x .number) (routed x))
+      → TableRouteGives s t d (byNumber (y .number) (routed y)) → x ≡ y
   table-route-sharp t x y e f =
-      let same = by-number-tells (x .number) (y .number) (record { set = x .delivered; tried = x .tried }) (record { set = y .delivered; tried = y .tried }) (only-one e f) in
+      let same = by-number-tells (x .number) (y .number) (routed x) (routed y) (only-one e f) in
       λ i. record { number = same .0 i; delivered = same .1 i .set; tried = same .1 i .tried }

@@ -1,4 +1,4 @@
--- What is said is what the answer says.
+-- `hub::covers` meets its contract: what is said is what the answer says.
 use mathlib.Core.Path.{ap}
 use borrow.Author.Needs.{needs}
 use Rattle.meaning.specs.Given.{askedGiven}

@@ -1,4 +1,4 @@
--- What is given and written is what the answer gives and writes.
+-- `hub::merge` meets its contract: what is given and written is what the answer gives and writes.
 use mathlib.Core.Path.{ap}
 use borrow.Author.Needs.{needs}
 use Rattle.meaning.specs.Given.{mergedGiven}

@@ -1,4 +1,4 @@
--- What the route gives is what its answer gives.
+-- `hub::table_route` meets its contract: what the route gives is what its answer gives.
 use mathlib.Core.Path.{ap}
 use borrow.Author.Needs.{needs}
 use Rattle.meaning.specs.Given.{tabledGiven}

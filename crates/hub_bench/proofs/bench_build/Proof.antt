@@ -1,4 +1,4 @@
--- The build call for the benchmark gives the number, the rounds and the length of the hub's answer, and writes what it writes.
+-- `hub_bench::bench_build` meets its contract: the number, the rounds and the length of the hub's answer, and what it writes.
 use borrow.Author.Needs.{needs}
 use Rattle.meaning.specs.Given.{refusal, gives, builtGiven}
 use Rattle.laws.specs.AnswerNumbers.{by-number, build-told}

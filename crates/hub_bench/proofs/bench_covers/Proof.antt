@@ -1,4 +1,4 @@
--- The covering call for the benchmark gives the number and the yes or no of the hub's answer.
+-- `hub_bench::bench_covers` meets its contract: the number and the yes or no of the hub's answer.
 use borrow.Author.Needs.{needs}
 use Rattle.meaning.specs.Given.{refusal, gives, askedGiven}
 use Rattle.laws.specs.AnswerNumbers.{by-number, covers-told}

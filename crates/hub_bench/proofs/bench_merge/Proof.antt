@@ -1,4 +1,4 @@
--- The merge call for the benchmark gives the number, the mark and the length of the hub's answer, and writes what it writes.
+-- `hub_bench::bench_merge` meets its contract: the number, the mark and the length of the hub's answer, and what it writes.
 use borrow.Author.Needs.{needs}
 use Rattle.meaning.specs.Given.{refusal, gives, mergedGiven}
 use Rattle.laws.specs.AnswerNumbers.{by-number, merge-told}

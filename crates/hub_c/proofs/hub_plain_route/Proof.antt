@@ -1,4 +1,4 @@
--- The plain route for C gives the number and the set of the hub's answer; where it is refused the number is not 0.
+-- `hub_c::hub_plain_route` meets its contract: the number and the set of the hub's answer; where it is refused the number is not 0.
 use borrow.Author.Needs.{needs}
 use Rattle.meaning.specs.Given.{refusal, gives, routedGiven}
 use Rattle.laws.specs.AnswerNumbers.{by-number, plain-route-told}

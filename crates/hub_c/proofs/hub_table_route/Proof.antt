@@ -1,4 +1,4 @@
--- The route by a table for C gives the number, the set and the tries of the hub's answer; where it is refused the number is not 0.
+-- `hub_c::hub_table_route` meets its contract: the number, the set and the tries of the hub's answer; where it is refused the number is not 0.
 use borrow.Author.Needs.{needs}
 use Rattle.meaning.specs.Given.{refusal, gives, tabledGiven}
 use Rattle.laws.specs.AnswerNumbers.{by-number, table-route-told}
