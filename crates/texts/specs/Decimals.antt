@@ -44,7 +44,7 @@ digit-put w u n h e = e ∙ put-one w (48 + n) ∙ ap (put w) (sym (decimal-digi
 -- the digits of the tenth are put, and the last
 pub last-put : (w v u : Written) (n : ℕ) → 10 ≤ n → v ≡ put w (decimal (n / 10)) → u ≡ putByte v (48 + n % 10) → u ≡ put w (decimal n)
 last-put w v u n h f e =
-    put-then w v (decimal (n / 10)) ((48 + n % 10) ∷ []) u f (e ∙ put-one v (48 + n % 10)) ∙ ap (put w) (sym (decimal-last n h))
+    put-then w (decimal (n / 10)) ((48 + n % 10) ∷ []) f (e ∙ put-one v (48 + n % 10)) ∙ ap (put w) (sym (decimal-last n h))
 
 -- below a power of ten, no more digits than its exponent
 pub digits : (d n : ℕ) → n < 10 ^ suc d → length (decimal n) ≤ suc d

@@ -60,12 +60,12 @@ unfolding putByte pick written
 byte-lost out at b h = sym (rw (le-ltb at (length out) h))
 
 -- the same text
-pub put-is : (w u : Written) (xs ys : List ℕ) → ys ≡ xs → u ≡ put w xs → u ≡ put w ys
-put-is w u xs ys e h = h ∙ ap (put w) (sym e)
+pub put-is : (w : Written) {u : Written} {xs ys : List ℕ} → ys ≡ xs → u ≡ put w xs → u ≡ put w ys
+put-is w e h = h ∙ ap (put w) (sym e)
 
 -- what follows a text that was put: its own text is put after it
-pub put-then : (v w : Written) (xs ys : List ℕ) (u : Written) → w ≡ put v xs → u ≡ put w ys → u ≡ put v (xs ++ ys)
-put-then v w xs ys u e f = f ∙ ap (λ (z : Written). put z ys) e ∙ sym (put-append v xs ys)
+pub put-then : (v : Written) {w u : Written} (xs ys : List ℕ) → w ≡ put v xs → u ≡ put w ys → u ≡ put v (xs ++ ys)
+put-then v xs ys e f = f ∙ ap (λ (z : Written). put z ys) e ∙ sym (put-append v xs ys)
 
 -- the output keeps its length
 length-byte : (w : Written) (b : ℕ) → length (putByte w b .out) ≡ length (w .out)
@@ -88,21 +88,21 @@ pub record LeftToPut (out₀ : List ℕ) (at₀ : ℕ) (text : List ℕ) (out : 
   pub gives : put (written out next) left ≡ put (written out₀ at₀) text
 
 -- at first all of it is left
-pub left-first : (out : List ℕ) (at : ℕ) (text : List ℕ) → LeftToPut out at text out at text
-left-first out at text = record { gives = refl }
+pub left-first : {out : List ℕ} {at : ℕ} {text : List ℕ} → LeftToPut out at text out at text
+left-first = record { gives = refl }
 
 module _ {out₀ : List ℕ} {at₀ : ℕ} {text : List ℕ} {out : List ℕ} {next : ℕ} {left : List ℕ} where
   -- one part of it is put
-  pub left-goes-on : LeftToPut out₀ at₀ text out next left → (part others : List ℕ) → left ≡ part ++ others
-      → (after : List ℕ) (then : ℕ) → written after then ≡ put (written out next) part → LeftToPut out₀ at₀ text after then others
-  left-goes-on h part others e after then f =
+  pub left-goes-on : LeftToPut out₀ at₀ text out next left → (part : List ℕ) {others : List ℕ} → left ≡ part ++ others
+      → {after : List ℕ} {then : ℕ} → written after then ≡ put (written out next) part → LeftToPut out₀ at₀ text after then others
+  left-goes-on h part {others} e f =
       record {
         gives = ap (λ (w : Written). put w others) f ∙ sym (put-append (written out next) part others) ∙ ap (put (written out next)) (sym e) ∙ h .gives;
       }
 
   -- what is left is the same
-  pub left-stays : LeftToPut out₀ at₀ text out next left → (others : List ℕ) → left ≡ others → LeftToPut out₀ at₀ text out next others
-  left-stays h others e = record { gives = ap (put (written out next)) (sym e) ∙ h .gives }
+  pub left-stays : LeftToPut out₀ at₀ text out next left → {others : List ℕ} → left ≡ others → LeftToPut out₀ at₀ text out next others
+  left-stays h e = record { gives = ap (put (written out next)) (sym e) ∙ h .gives }
 
   -- nothing is left
   pub left-none : LeftToPut out₀ at₀ text out next left → left ≡ [] → written out next ≡ put (written out₀ at₀) text

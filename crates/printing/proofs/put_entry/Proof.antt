@@ -13,8 +13,8 @@ returns c =
     let pattern = end .before .before .before .before .before in
     let colon = pattern .before .before .before .before in
     let members = colon .before .before .before .before .before in
-    put-then _ _ _ _ _ (members .put-members .ensures)
-    (put-then _ _ _ _ _ (colon .put-bytes .ensures) (put-then _ _ _ _ _ (pattern .put-pattern .ensures) (end .put-bytes2 .ensures)))
+    put-then _ _ _ (members .put-members .ensures)
+    (put-then _ _ _ (colon .put-bytes .ensures) (put-then _ _ _ (pattern .put-pattern .ensures) (end .put-bytes2 .ensures)))
 
 pub put-entry-spec : {M : Type 1} → statement M
 put-entry-spec =

@@ -17,7 +17,7 @@ abbrev μ-loop : tie.MeasureT-loop
 μ-loop out₀ at members n next₀ started₀ i₀ out next started i = n - i
 
 loop-holds : tie.Need-loop-holds Inv-loop μ-loop
-loop-holds c = left-first _ _ _
+loop-holds c = left-first
 
 loop-again : tie.Need-loop-again Inv-loop μ-loop
 loop-again c =
@@ -27,19 +27,19 @@ loop-again c =
     let l = asked .before .before in
     let n = l .before .before .args .n in
     let here = member-here _ n (l .loop .i) (omega arith) (l .loop .started) _ (asked .is-member .ensures) (f .before .before .if1 .taken) in
-    left-goes-on (left-goes-on (l .loop .inv) _ _ here _ _ (f .put-if .ensures)) _ _ refl _ _ (d .put-decimal .ensures)
+    left-goes-on (left-goes-on (l .loop .inv) _ here (f .put-if .ensures)) _ refl (d .put-decimal .ensures)
 
 loop-again-2 : tie.Need-loop-again-2 Inv-loop μ-loop
 loop-again-2 c =
     let l = c .before .before .before in
     let n = l .before .before .args .n in
-    left-stays (l .loop .inv) _ (member-not _ n (l .loop .i) (omega arith) (l .loop .started) _ (c .before .is-member .ensures) (c .if1 .left))
+    left-stays (l .loop .inv) (member-not _ n (l .loop .i) (omega arith) (l .loop .started) _ (c .before .is-member .ensures) (c .if1 .left))
 
 same-length : tie.Need-same-length Inv-loop μ-loop
 same-length c = left-same (c .before .loop .inv)
 
 returns : tie.Need-returns Inv-loop μ-loop
-returns c = put-is _ _ _ _ (members-text _ _) (left-none (c .before .loop .inv) (members-end _ _ _ _ (omega arith)))
+returns c = put-is _ (members-text _ _) (left-none (c .before .loop .inv) (members-end _ _ _ _ (omega arith)))
 
 pub put-members-spec : {M : Type 1} → statement M
 put-members-spec =

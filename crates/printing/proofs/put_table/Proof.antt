@@ -28,7 +28,7 @@ loop-again c =
     let e = c .before .before in
     let l = e .before .before .before .before in
     let sound = l .before .before .before .before .before .before .before .before .pre .0 in
-    left-goes-on (l .loop .inv) _ _ (entry-here _ sound _ _ (l .loop .i) _ (omega arith)) _ _ (e .put-entry .ensures)
+    left-goes-on (l .loop .inv) _ (entry-here _ sound _ _ (l .loop .i) _ (omega arith)) (e .put-entry .ensures)
 
 same-length : tie.Need-same-length Inv-loop μ-loop
 same-length c =
@@ -41,8 +41,8 @@ returns c =
     let totals = l .before .before .before in
     let steps = totals .before .before in
     let sound = steps .before .before .before .pre .0 in
-    put-is _ _ _ _ (table-text _ sound _ _ _ _ (steps .steps-together .ensures .0))
-    (put-then _ _ _ _ _ (totals .put-totals .ensures) (left-none (l .loop .inv) (entries-end _ sound _ _ _ (c .loop-test .left))))
+    put-is _ (table-text _ sound _ _ _ _ (steps .steps-together .ensures .0))
+    (put-then _ _ _ (totals .put-totals .ensures) (left-none (l .loop .inv) (entries-end _ sound _ _ _ (c .loop-test .left))))
 
 pub put-table-spec : {M : Type 1} → statement M
 put-table-spec =
@@ -50,7 +50,7 @@ put-table-spec =
     (tie.spec Inv-loop μ-loop
     -- what steps_together and put_totals ask
     (λ c κs. c .before .before .pre .0) (λ c κs. tt)
-    (λ c. left-first _ _ _)
+    (λ c. left-first)
     -- fewer than 64 entries came before this one
     (λ c. omega (arith, c .before .before .before .before .before .before .before .before .before .pre .0 .few))
     (λ c. omega (arith, c .before .before .before .before .before .before .before .before .before .pre .0 .few))

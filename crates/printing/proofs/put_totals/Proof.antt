@@ -13,8 +13,8 @@ returns c =
     let steps = rounds .before .before .before .before .before in
     let entries = steps .before .before .before .before .before in
     let subscriptions = entries .before .before .before .before .before in
-    put-then _ _ _ _ _ (subscriptions .put-counted .ensures)
-    (put-then _ _ _ _ _ (entries .put-counted2 .ensures) (put-then _ _ _ _ _ (steps .put-counted3 .ensures) (rounds .put-counted4 .ensures)))
+    put-then _ _ _ (subscriptions .put-counted .ensures)
+    (put-then _ _ _ (entries .put-counted2 .ensures) (put-then _ _ _ (steps .put-counted3 .ensures) (rounds .put-counted4 .ensures)))
 
 pub put-totals-spec : {M : Type 1} → statement M
 put-totals-spec =

@@ -18,13 +18,13 @@ abbrev μ-loop : tie.MeasureT-loop
 μ-loop out₀ at text next₀ i₀ out next i = length text - i
 
 loop-holds : tie.Need-loop-holds Inv-loop μ-loop
-loop-holds c = left-first _ _ _
+loop-holds c = left-first
 
 loop-again : tie.Need-loop-again Inv-loop μ-loop
 loop-again c =
     let w = c .before .before .before .before .before .before in
-    left-goes-on (w .loop .inv) (getD (w .before .before .before .args .text .now) (w .loop .i) 0 ∷ []) _
-    (rw add-one (drop-cons (w .before .before .before .args .text .now) (w .loop .i) 0 (omega arith))) _ _
+    left-goes-on (w .loop .inv) (getD (w .before .before .before .args .text .now) (w .loop .i) 0 ∷ [])
+    (rw add-one (drop-cons (w .before .before .before .args .text .now) (w .loop .i) 0 (omega arith)))
     (c .before .before .put-byte .ensures ∙ put-one _ _)
 
 same-length : tie.Need-same-length Inv-loop μ-loop

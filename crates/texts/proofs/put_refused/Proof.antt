@@ -10,7 +10,7 @@ unfolding ascii refusedText
 returns c =
     let number = c .before .before in
     let text = number .before .before .before .before .before in
-    put-then _ _ _ _ _ (text .put-bytes .ensures) (number .put-counted .ensures)
+    put-then _ _ _ (text .put-bytes .ensures) (number .put-counted .ensures)
 
 pub put-refused-spec : {M : Type 1} → statement M
 put-refused-spec =

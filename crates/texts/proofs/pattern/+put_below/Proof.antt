@@ -77,23 +77,23 @@ put-below-loop-again t c =
     let l = h .before .before .before .before in
     let s = l .before .before .before .before in
     let here = branch-text _ _ _ (s .pre .1) _ (l .loop .k) (omega arith) (h .if1 .taken) in
-    let bracket = left-goes-on (l .loop .inv .1) _ _ here _ _ (opened .put-if .ensures) in
-    let step = left-goes-on bracket _ _ refl _ _ (own .put-step .ensures) in
-    let below = left-goes-on step _ _ refl _ _ (kids .put-below .ensures) in
-    (omega arith, left-goes-on below _ _ refl _ _ (closed .put-if2 .ensures))
+    let bracket = left-goes-on (l .loop .inv .1) _ here (opened .put-if .ensures) in
+    let step = left-goes-on bracket _ refl (own .put-step .ensures) in
+    let below = left-goes-on step _ refl (kids .put-below .ensures) in
+    (omega arith, left-goes-on below _ refl (closed .put-if2 .ensures))
 
 put-below-loop-again-2 : PutBelow put-below-lts.Need-loop-again-2
 unfolding stepIn
 put-below-loop-again-2 t c =
     let l = c .before .before .before .before in
     let sound = l .before .before .before .before .pre .1 in
-    (omega arith, left-stays (l .loop .inv .1) _ (other-text _ _ _ sound _ (l .loop .k) (omega arith) (c .if1 .left)))
+    (omega arith, left-stays (l .loop .inv .1) (other-text _ _ _ sound _ (l .loop .k) (omega arith) (c .if1 .left)))
 
 put-below-returns : PutBelow put-below-lts.Need-returns
 put-below-returns t c =
     let l = c .before in
     let sound = l .before .before .before .before .pre .1 in
-    put-is _ _ _ _ (below-text _ _ _ _ (l .before .several-below .ensures))
+    put-is _ (below-text _ _ _ _ (l .before .several-below .ensures))
     (left-none (l .loop .inv .1) (end-text _ _ _ sound _ (l .loop .k) (omega arith)))
 
 pub +put-below-spec : {M : Type 1} → statement M
@@ -101,7 +101,7 @@ pub +put-below-spec : {M : Type 1} → statement M
     close μ-put-below
     λ t. put-below-lts.spec (put-below-calls t) (put-below-at t) put-below.Post put-below-Inv-loop put-below-μ-loop
     (λ c κs. c .before .before .pre .1)
-    (λ c. (omega arith, left-first _ _ _))
+    (λ c. (omega arith, left-first))
     (λ c. omega arith) (λ c. omega arith) (λ c. omega arith) (λ c. search needs)
     (λ c κs. tt) (λ c κs. tt)
     (put-below-asks t)

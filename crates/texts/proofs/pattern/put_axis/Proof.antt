@@ -6,10 +6,10 @@ use Rattle.texts.proofs.pattern.put_axis.Statement.{statement}
 use Rattle.texts.proofs.pattern.put_axis.Tie as tie
 
 returns : tie.Need-returns
-returns c = put-is _ _ _ _ (near-text _ (c .before .before .before .before .before .if1 .taken)) (c .before .before .put-bytes .ensures)
+returns c = put-is _ (near-text _ (c .before .before .before .before .before .if1 .taken)) (c .before .before .put-bytes .ensures)
 
 returns-2 : tie.Need-returns-2
-returns-2 c = put-is _ _ _ _ (far-text _ (c .before .before .before .before .before .if1 .left)) (c .before .before .put-bytes2 .ensures)
+returns-2 c = put-is _ (far-text _ (c .before .before .before .before .before .if1 .left)) (c .before .before .put-bytes2 .ensures)
 
 pub put-axis-spec : {M : Type 1} → statement M
 put-axis-spec =

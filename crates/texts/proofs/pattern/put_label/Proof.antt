@@ -9,16 +9,17 @@ use Rattle.texts.proofs.pattern.put_label.Statement.{statement}
 use Rattle.texts.proofs.pattern.put_label.Tie as tie
 
 returns : tie.Need-returns
-returns c = put-is _ _ _ _ (any-text _ _ (c .before .before .before .before .before .if1 .taken)) (c .before .before .put-bytes .ensures)
+returns c = put-is _ (any-text _ _ (c .before .before .before .before .before .if1 .taken)) (c .before .before .put-bytes .ensures)
 
 returns-2 : tie.Need-returns-2
-returns-2 c = put-is _ _ _ _ (no-text _ _ (omega (arith, c .before .byte-at .ensures .0))) (put-nothing _)
+returns-2 c = put-is _ (no-text _ _ (omega (arith, c .before .byte-at .ensures .0))) (put-nothing _)
 
 returns-3 : tie.Need-returns-3
-returns-3 c = let s = c .before .before .before .before .before .before .before .before .before .before .before .args in
+returns-3 c =
+    let s = c .before .before .before .before .before .before .before .before .before .before .before .args in
     let text = c .before .before .before in
     let place = text .before .before in
-    put-is _ _ _ _
+    put-is _
     (label-text (s .s .now) (s .l) (place .before .before .before .if1 .left) (omega (arith, place .before .before .byte-at .ensures .0))
     ∙ ap (textAt (s .s .now)) (sym (place .after-labels .ensures .0))
     ∙ sym (text .text-at .ensures))

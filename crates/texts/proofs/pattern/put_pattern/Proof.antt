@@ -7,11 +7,11 @@ use Rattle.texts.proofs.pattern.put_pattern.Tie as tie
 
 returns : tie.Need-returns
 returns c = let s = c .before .before .before .before .before .before .before .before .before in
-    put-is _ _ _ _ (dot-text _ (s .args .p) (c .before .before .before .before .before .if1 .taken)) (c .before .before .put-bytes .ensures)
+    put-is _ (dot-text _ (s .args .p) (c .before .before .before .before .before .if1 .taken)) (c .before .before .put-bytes .ensures)
 
 returns-2 : tie.Need-returns-2
 returns-2 c = let s = c .before .before .before .before .before .before .before .before in
-    put-is _ _ _ _ (pattern-text _ (s .args .p) (s .pre) (c .before .before .before .before .if1 .left)) (c .before .before .put-below .ensures)
+    put-is _ (pattern-text _ (s .args .p) (s .pre) (c .before .before .before .before .if1 .left)) (c .before .before .put-below .ensures)
 
 pub put-pattern-spec : {M : Type 1} → statement M
 put-pattern-spec =

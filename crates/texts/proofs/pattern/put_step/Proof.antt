@@ -9,7 +9,7 @@ returns : tie.Need-returns
 unfolding stepText
 returns c = let l = c .before .before in
     let a = l .before .before .before .before .before in
-    put-then _ _ _ _ _ (a .put-axis .ensures) (l .put-label .ensures)
+    put-then _ _ _ (a .put-axis .ensures) (l .put-label .ensures)
 
 pub put-step-spec : {M : Type 1} → statement M
 put-step-spec =
