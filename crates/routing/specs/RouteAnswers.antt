@@ -37,9 +37,9 @@ module _ (s d : List ℕ) where
   plain-by-place = both-judged s d routed.Refused plainSays
 
   -- a refusal
-  pub plain-refused : (m : ℕ) → sheetDocumentPlace s d ≡ No m → routed.Refused m ≡ plainAnswer s d
+  pub plain-refused : {m : ℕ} → sheetDocumentPlace s d ≡ No m → routed.Refused m ≡ plainAnswer s d
   unfolding reached
-  plain-refused m h = sym (plain-by-place ∙ rw h)
+  plain-refused h = sym (plain-by-place ∙ rw h)
 
   -- ---- one subscription by its number
 
@@ -53,27 +53,27 @@ module _ (s d : List ℕ) where
     match-by-place = both-judged s d asked.Refused matchSays
 
     -- a refusal
-    pub match-refused : (m : ℕ) → sheetDocumentPlace s d ≡ No m → asked.Refused m ≡ matchesAnswer s d i
+    pub match-refused : {m : ℕ} → sheetDocumentPlace s d ≡ No m → asked.Refused m ≡ matchesAnswer s d i
     unfolding reached
-    match-refused m h = sym (match-by-place ∙ rw h)
+    match-refused h = sym (match-by-place ∙ rw h)
 
   -- where both were judged, and the nodes stand
-  module _ (y at n : ℕ) (h : sheetDocumentPlace s d ≡ At y) (e : at ≡ nodeCountAt d + 2) (f : n ≡ pairAt d (nodeCountAt d)) where
+  module _ {y at n : ℕ} (h : sheetDocumentPlace s d ≡ At y) (e : at ≡ nodeCountAt d + 2) (f : n ≡ pairAt d (nodeCountAt d)) where
     -- the nodes of the document are those that stand there
     nodes-there : documentAt d .nodes ≡ nodesAt d at n
     unfolding documentAt
     nodes-there = rw (e, f)
 
     -- the plain route is delivered
-    pub plain-delivered : (set : ℕ) → set ≡ plainRoute (nodesAt d at n) (sheetAt s .patterns) → routed.Delivered set ≡ plainAnswer s d
+    pub plain-delivered : {set : ℕ} → set ≡ plainRoute (nodesAt d at n) (sheetAt s .patterns) → routed.Delivered set ≡ plainAnswer s d
     unfolding reached
-    plain-delivered set r =
+    plain-delivered r =
         ap routed.Delivered (r ∙ ap (λ (ns : List Node). plainRoute ns (sheetAt s .patterns)) (sym nodes-there)) ∙ sym (plain-by-place ∙ rw h)
 
     -- the subscription is answered
-    pub match-answered : (i : ℕ) (a : Asked) → a ≡ numberedAnswer (nodesAt d at n) (sheetAt s) i → a ≡ matchesAnswer s d i
+    pub match-answered : (i : ℕ) {a : Asked} → a ≡ numberedAnswer (nodesAt d at n) (sheetAt s) i → a ≡ matchesAnswer s d i
     unfolding reached
-    match-answered i a r =
+    match-answered i r =
         r ∙ ap (λ (ns : List Node). numberedAnswer ns (sheetAt s) i) (sym nodes-there) ∙ sym (match-by-place i ∙ rw h)
 
 -- ---- the route by a table
@@ -90,21 +90,21 @@ module _ (s t d : List ℕ) where
       ∙ ap (reached (fairPlace s t) tabled.Refused) (document-judged s d tabled.Refused (tableSays (sheetAt s) (tableAt t)))
 
   -- the sheet or the table is refused
-  pub table-refused : (m : ℕ) → fairPlace s t ≡ No m → tabled.Refused m ≡ tableAnswer s t d
+  pub table-refused : {m : ℕ} → fairPlace s t ≡ No m → tabled.Refused m ≡ tableAnswer s t d
   unfolding reached
-  table-refused m h = sym (table-by-place ∙ rw h)
+  table-refused h = sym (table-by-place ∙ rw h)
 
-  module _ (y : ℕ) (h : fairPlace s t ≡ At y) where
+  module _ {y : ℕ} (h : fairPlace s t ≡ At y) where
     -- the document is refused
-    pub document-refused : (m : ℕ) → documentPlace s d ≡ No m → tabled.Refused m ≡ tableAnswer s t d
+    pub document-refused : {m : ℕ} → documentPlace s d ≡ No m → tabled.Refused m ≡ tableAnswer s t d
     unfolding reached
-    document-refused m g = sym (table-by-place ∙ rw (h, g))
+    document-refused g = sym (table-by-place ∙ rw (h, g))
 
     -- the route by the table is delivered
-    pub table-delivered : (z at n : ℕ) (r : Route) → documentPlace s d ≡ At z → at ≡ nodeCountAt d + 2 → n ≡ pairAt d (nodeCountAt d)
+    pub table-delivered : {z at n : ℕ} {r : Route} → documentPlace s d ≡ At z → at ≡ nodeCountAt d + 2 → n ≡ pairAt d (nodeCountAt d)
         → r ≡ routeBy (nodesAt d at n) (sheetAt s .patterns) (tableAt t) → tabled.Delivered (r .set) (r .tried) ≡ tableAnswer s t d
     unfolding reached documentAt
-    table-delivered z at n r g a b q =
+    table-delivered {z} {at} {n} {r} g a b q =
         let ns = nodesAt d at n in
         let set : r .set ≡ tableRoute ns (tableAt t) (sheetAt s .patterns) = ap (λ (u : Route). u .set) q ∙ route-set ns (sheetAt s .patterns) (tableAt t) in
         let count : r .tried ≡ tried ns (tableAt t) (sheetAt s .patterns) = ap (λ (u : Route). u .tried) q ∙ route-tried ns (sheetAt s .patterns) (tableAt t) in

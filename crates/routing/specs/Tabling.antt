@@ -34,16 +34,16 @@ unfoldable pub memberTried : ℕ → ℕ → Bool → Route → Route
 memberTried members i said r = pick (isMember members i) (record { set = marked (r .set) i said; tried = r .tried + 1 }) r
 
 -- as a member is asked
-pub member-asked : (members i : ℕ) (said : Bool) (r : Route) (b yes′ : Bool) (set n : ℕ) → b ≡ isMember members i → b ≡ true
+pub member-asked : (members i : ℕ) (r : Route) {said b yes′ : Bool} {set n : ℕ} → b ≡ isMember members i → b ≡ true
     → yes′ ≡ said → set ≡ marked (r .set) i yes′ → n ≡ r .tried + 1
     → _≡_ {A = Route} (record { set = set; tried = n }) (memberTried members i said r)
 unfolding memberTried
-member-asked members i said r b yes′ set n e h f g k = pick-true _ _ _ (isMember members i) (sym e ∙ h) (rw (g, f, k))
+member-asked members i r e h f g k = pick-true _ _ _ (isMember members i) (sym e ∙ h) (rw (g, f, k))
 
 -- as another is left
-pub member-left : (members i : ℕ) (said : Bool) (r : Route) (b : Bool) → b ≡ isMember members i → b ≡ false → r ≡ memberTried members i said r
+pub member-left : (members i : ℕ) (said : Bool) {r : Route} {b : Bool} → b ≡ isMember members i → b ≡ false → r ≡ memberTried members i said r
 unfolding memberTried
-member-left members i said r b e h = pick-false _ _ _ (isMember members i) (sym e ∙ h) refl
+member-left members i said e h = pick-false _ _ _ (isMember members i) (sym e ∙ h) refl
 
 -- at most one more
 member-tried-few : (members i : ℕ) (said : Bool) (r q : Route) → q ≡ memberTried members i said r → q .tried ≤ r .tried + 1
@@ -136,11 +136,11 @@ module _ (ns : List Node) (ps : List Forest) where
 
   -- ---- as an entry is asked
 
-  module _ (e : Entry) (r : Route) (b : Bool) (n : ℕ) (said : b ≡ satisfies ns (e .pattern)) (one : n ≡ r .tried + 1) where
+  module _ (e : Entry) (r : Route) {b : Bool} {n : ℕ} (said : b ≡ satisfies ns (e .pattern)) (one : n ≡ r .tried + 1) where
     -- its members follow
-    pub entry-matches : (q : Route) → b ≡ true → q ≡ askMembers (e .members) (record { set = r .set; tried = n }) → q ≡ askEntry e r
+    pub entry-matches : {q : Route} → b ≡ true → q ≡ askMembers (e .members) (record { set = r .set; tried = n }) → q ≡ askEntry e r
     unfolding askEntry oneMore
-    entry-matches q h k = pick-true _ _ _ (satisfies ns (e .pattern)) (sym said ∙ h) (k ∙ rw one)
+    entry-matches h k = pick-true _ _ _ (satisfies ns (e .pattern)) (sym said ∙ h) (k ∙ rw one)
 
     -- nothing follows
     pub entry-fails : b ≡ false → _≡_ {A = Route} (record { set = r .set; tried = n }) (askEntry e r)

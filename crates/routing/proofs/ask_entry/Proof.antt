@@ -19,13 +19,13 @@ returns : tie.Need-returns
 unfolding entryOf
 returns c =
     let tried = c .before .before .try-pattern .ensures in
-    entry-matches _ _ (entryOf _) _ _ _ (tried .0) (tried .1) _ (c .before .if1 .taken) (c .ask-members .ensures)
+    entry-matches _ _ (entryOf _) _ (tried .0) (tried .1) (c .before .if1 .taken) (c .ask-members .ensures)
 
 returns-2 : tie.Need-returns-2
 unfolding entryOf
 returns-2 c =
     let tried = c .before .try-pattern .ensures in
-    entry-fails _ _ (entryOf _) _ _ _ (tried .0) (tried .1) (c .if1 .left)
+    entry-fails _ _ (entryOf _) _ (tried .0) (tried .1) (c .if1 .left)
 
 pub ask-entry-spec : {M : Type 1} → statement M
 ask-entry-spec = tie.close (tie.spec try-pattern-requires ask-members-requires returns returns-2)

@@ -6,7 +6,7 @@ use Rattle.routing.proofs.ask_member.Statement.{statement}
 use Rattle.routing.proofs.ask_member.Tie as tie
 
 returns : tie.Need-returns
-returns c = member-left _ _ _ _ _ (c .before .is-member .ensures) (not-true _ (c .if1 .taken))
+returns c = member-left _ _ _ (c .before .is-member .ensures) (not-true _ (c .if1 .taken))
 
 try-pattern-requires : tie.Need-try-pattern-requires
 try-pattern-requires c κs =
@@ -17,7 +17,7 @@ returns-2 : tie.Need-returns-2
 returns-2 c =
     let member = c .before .before .before in
     let tried = c .before .try-pattern .ensures in
-    member-asked _ _ _ _ _ _ _ _ (member .before .is-member .ensures) (not-false _ (member .if1 .left))
+    member-asked _ _ _ (member .before .is-member .ensures) (not-false _ (member .if1 .left))
     (rw (← (c .before .before .pattern-at .ensures)) (tried .0)) (c .mark .ensures) (tried .1)
 
 pub ask-member-spec : {M : Type 1} → statement M

@@ -16,10 +16,10 @@ returns : tie.Need-returns
 returns c =
     let x = c .before .before .before .before in
     let judged = sym (x .before .before .both .ensures) ∙ x .x .given .1 in
-    plain-delivered _ _ _ _ _ judged (c .before .before .node-place .ensures .0) (c .before .node-count .ensures .0) _ (c .deliver .ensures)
+    plain-delivered _ _ judged (c .before .before .node-place .ensures .0) (c .before .node-count .ensures .0) (c .deliver .ensures)
 
 returns-2 : tie.Need-returns-2
-returns-2 c = plain-refused _ _ _ (sym (c .before .before .before .both .ensures) ∙ c .before .m .given .1)
+returns-2 c = plain-refused _ _ (sym (c .before .before .before .both .ensures) ∙ c .before .m .given .1)
 
 pub plain-route-spec : {M : Type 1} → statement M
 plain-route-spec =

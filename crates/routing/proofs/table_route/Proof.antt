@@ -22,7 +22,7 @@ returns c =
     let x = y .before .before .before .before in
     let fair = sym (x .before .before .fair-table .ensures) ∙ x .x .given .1 in
     let judged = sym (y .before .before .document .ensures) ∙ y .y .given .1 in
-    table-delivered _ _ _ _ fair _ _ _ _ judged (c .before .before .node-place .ensures .0) (c .before .node-count .ensures .0)
+    table-delivered _ _ _ fair judged (c .before .before .node-place .ensures .0) (c .before .node-count .ensures .0)
     (c .ask-entries .ensures)
 
 returns-2 : tie.Need-returns-2
@@ -30,10 +30,10 @@ returns-2 c =
     let asked = c .before .before .before in
     let x = asked .before .before in
     let fair = sym (x .before .before .fair-table .ensures) ∙ x .x .given .1 in
-    document-refused _ _ _ _ fair _ (sym (asked .document .ensures) ∙ c .before .m .given .1)
+    document-refused _ _ _ fair (sym (asked .document .ensures) ∙ c .before .m .given .1)
 
 returns-3 : tie.Need-returns-3
-returns-3 c = table-refused _ _ _ _ (sym (c .before .before .before .fair-table .ensures) ∙ c .before .m2 .given .1)
+returns-3 c = table-refused _ _ _ (sym (c .before .before .before .fair-table .ensures) ∙ c .before .m2 .given .1)
 
 pub table-route-spec : {M : Type 1} → statement M
 table-route-spec =
