@@ -72,26 +72,26 @@ table-number s t = sym (number-after (sheetSection s) (λ sh. numberOf (fairTabl
 -- ---- as it is asked
 
 -- not fair where an entry does not fit
-pub not-fit : (s t : List ℕ) (n : ℕ) (r : Bool) → n ≡ length (sheetAt s .patterns) → r ≡ every (isFit n) (tableAt t) → r ≡ false → false ≡ fairAt s t
+pub not-fit : (s t : List ℕ) {n : ℕ} {r : Bool} → n ≡ length (sheetAt s .patterns) → r ≡ every (isFit n) (tableAt t) → r ≡ false → false ≡ fairAt s t
 unfolding fairAt
-not-fit s t n r e h k =
+not-fit s t e h k =
     let so : every (isFit (length (sheetAt s .patterns))) (tableAt t) ≡ false = rw (← e) (sym h ∙ k) in
     sym (ap (λ (b : Bool). b && eachInOne 0 (sheetAt s .patterns) (tableAt t)) so) ∙ fair-parts (sheetAt s .patterns) (tableAt t)
 
 -- otherwise fair where each subscription stands in one that covers it
-pub all-fit : (s t : List ℕ) (n : ℕ) (r q : Bool) → n ≡ length (sheetAt s .patterns) → r ≡ every (isFit n) (tableAt t) → r ≡ true
+pub all-fit : (s t : List ℕ) {n : ℕ} {r q : Bool} → n ≡ length (sheetAt s .patterns) → r ≡ every (isFit n) (tableAt t) → r ≡ true
     → q ≡ eachInOne 0 (sheetAt s .patterns) (tableAt t) → q ≡ fairAt s t
 unfolding fairAt
-all-fit s t n r q e h k l =
+all-fit s t e h k l =
     let so : every (isFit (length (sheetAt s .patterns))) (tableAt t) ≡ true = rw (← e) (sym h ∙ k) in
     l ∙ sym (ap (λ (b : Bool). b && eachInOne 0 (sheetAt s .patterns) (tableAt t)) so) ∙ fair-parts (sheetAt s .patterns) (tableAt t)
 
 module _ (s t : List ℕ) where
   -- where both were judged, subscriptions and entries stand
-  pub sheet-table-stand : (y : ℕ) (v : Subscriptions) (w : Entries) → sheetTablePlace s t ≡ At y → v ≡ subscriptionsOf s
+  pub sheet-table-stand : {y : ℕ} {v : Subscriptions} {w : Entries} → sheetTablePlace s t ≡ At y → v ≡ subscriptionsOf s
       → w ≡ tableEntries t → SubscriptionsStand s v × EntriesStand t w
   unfolding sheetTablePlace
-  sheet-table-stand y v w h e f =
+  sheet-table-stand {y} {v} {w} h e f =
       let a = passed-on (sheetPlace s) _ y h in
       let sound = sheet-stands s (a .0) (a .1) in
       (subscriptions-stand s v sound e, entries-stand s t y (a .2) w f)
@@ -107,23 +107,23 @@ module _ (s t : List ℕ) where
       go (No n) = refl
 
   -- the table is fair
-  pub place-fair : (y : ℕ) (r : Bool) → sheetTablePlace s t ≡ At y → r ≡ fairAt s t → r ≡ true → At y ≡ fairPlace s t
+  pub place-fair : {y : ℕ} {r : Bool} → sheetTablePlace s t ≡ At y → r ≡ fairAt s t → r ≡ true → At y ≡ fairPlace s t
   unfolding andThen pick
-  place-fair y r h e k = sym (last ∙ rw (h, ← e, k))
+  place-fair h e k = sym (last ∙ rw (h, ← e, k))
 
   -- it is not
-  pub place-not-fair : (y : ℕ) (r : Bool) → sheetTablePlace s t ≡ At y → r ≡ fairAt s t → r ≡ false → No 12 ≡ fairPlace s t
+  pub place-not-fair : {y : ℕ} {r : Bool} → sheetTablePlace s t ≡ At y → r ≡ fairAt s t → r ≡ false → No 12 ≡ fairPlace s t
   unfolding andThen pick
-  place-not-fair y r h e k = sym (last ∙ rw (h, ← e, k))
+  place-not-fair h e k = sym (last ∙ rw (h, ← e, k))
 
   -- the bytes are refused
-  pub place-refused : (m : ℕ) → sheetTablePlace s t ≡ No m → No m ≡ fairPlace s t
+  pub place-refused : {m : ℕ} → sheetTablePlace s t ≡ No m → No m ≡ fairPlace s t
   unfolding andThen
-  place-refused m h = sym (last ∙ rw h)
+  place-refused h = sym (last ∙ rw h)
 
   -- where the table check was passed, subscriptions and entries stand
-  pub fair-stand : (y : ℕ) (v : Subscriptions) (w : Entries) → fairPlace s t ≡ At y → v ≡ subscriptionsOf s → w ≡ tableEntries t
+  pub fair-stand : {y : ℕ} {v : Subscriptions} {w : Entries} → fairPlace s t ≡ At y → v ≡ subscriptionsOf s → w ≡ tableEntries t
       → SubscriptionsStand s v × EntriesStand t w
-  fair-stand y v w h e f =
+  fair-stand {y} h e f =
       let a = passed-on (sheetTablePlace s t) _ y (sym last ∙ h) in
-      sheet-table-stand (a .0) v w (a .1) e f
+      sheet-table-stand (a .1) e f

@@ -69,7 +69,7 @@ module _ (i : ℕ) (p : Forest) where
       go false later = later
 
 -- one entry, by its members
-module _ (i : ℕ) (p : Forest) (e : Entry) (members found : ℕ) (same : members ≡ e .members) (r : Bool) (asked : r ≡ isMember members i) where
+module _ (i : ℕ) (p : Forest) (e : Entry) (found : ℕ) {members : ℕ} (same : members ≡ e .members) {r : Bool} (asked : r ≡ isMember members i) where
   has : (b : Bool) → r ≡ b → hasMember i e ≡ b
   unfolding hasMember
   has b h = rw same at (sym asked ∙ h)
@@ -85,9 +85,9 @@ module _ (i : ℕ) (p : Forest) (e : Entry) (members found : ℕ) (same : member
   weigh-again h n = sym (rw (has true h, ne-eqb found 0 n))
 
   -- the first decides by covering
-  pub weigh-first : r ≡ true → found ≡ 0 → (b said : Bool) → said ≡ covers (e .pattern) p → said ≡ b → pick b 1 2 ≡ weighed i p e found
+  pub weigh-first : r ≡ true → found ≡ 0 → (b : Bool) {said : Bool} → said ≡ covers (e .pattern) p → said ≡ b → pick b 1 2 ≡ weighed i p e found
   unfolding weighed pick
-  weigh-first h n b said c d = sym (rw (has true h, eq-eqb found 0 n, sym c ∙ d))
+  weigh-first h n b c d = sym (rw (has true h, eq-eqb found 0 n, sym c ∙ d))
 
 -- the entries from j on, weighed on what was found, give what all give from the start
 pub record WeighingEntries (i : ℕ) (p : Forest) (t : List ℕ) (v : Entries) (j found : ℕ) : Type 0 where

@@ -10,7 +10,7 @@ all-fit-requires c κs =
     (pre .1, pre .0 .few)
 
 returns : tie.Need-returns
-returns c = not-fit _ _ _ _ (c .before .before .before .before .pre .0 .counted) (c .before .all-fit .ensures) (not-true _ (c .if1 .taken))
+returns c = not-fit _ _ (c .before .before .before .before .pre .0 .counted) (c .before .all-fit .ensures) (not-true _ (c .if1 .taken))
 
 members-in-requires : tie.Need-members-in-requires
 members-in-requires c κs = c .before .before .before .before .pre .1 .few
@@ -23,7 +23,7 @@ all-stand-requires c κs =
 returns-2 : tie.Need-returns-2
 returns-2 c =
     let fit = c .before .before .before in
-    all-fit _ _ _ _ _ (fit .before .before .before .pre .0 .counted) (fit .all-fit .ensures) (not-false _ (c .before .before .if1 .left))
+    all-fit _ _ (fit .before .before .before .pre .0 .counted) (fit .all-fit .ensures) (not-false _ (c .before .before .if1 .left))
     (c .all-stand .ensures)
 
 pub is-fair-spec : {M : Type 1} → statement M

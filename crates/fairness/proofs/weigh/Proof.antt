@@ -13,13 +13,13 @@ returns : tie.Need-returns
 unfolding entryOf
 returns c =
     let s = c .before .before .before in
-    weigh-passes _ _ _ _ _ (s .pre .0) _ (c .before .is-member .ensures) (not-true _ (c .if1 .taken))
+    weigh-passes _ _ _ _ (s .pre .0) (c .before .is-member .ensures) (not-true _ (c .if1 .taken))
 
 returns-2 : tie.Need-returns-2
 unfolding entryOf
 returns-2 c =
     let s = c .before .before .before .before in
-    weigh-again _ _ _ _ _ (s .pre .0) _ (c .before .before .is-member .ensures) (not-false _ (c .before .if1 .left)) (c .if2 .taken)
+    weigh-again _ _ _ _ (s .pre .0) (c .before .before .is-member .ensures) (not-false _ (c .before .if1 .left)) (c .if2 .taken)
 
 covers-requires : tie.Need-covers-requires
 covers-requires c κs =
@@ -33,8 +33,8 @@ returns-3 c =
     let member = c .before .before .before .before in
     let asked = member .before in
     let said = rw (c .before .before .entry-at .ensures) at (c .before .covers .ensures) in
-    weigh-first _ _ _ _ _ (asked .before .before .pre .0) _ (asked .is-member .ensures) (not-false _ (member .if1 .left)) (omega arith)
-    true _ said (c .if3 .taken)
+    weigh-first _ _ _ _ (asked .before .before .pre .0) (asked .is-member .ensures) (not-false _ (member .if1 .left)) (omega arith)
+    true said (c .if3 .taken)
 
 returns-4 : tie.Need-returns-4
 unfolding entryOf pick
@@ -42,8 +42,8 @@ returns-4 c =
     let member = c .before .before .before .before in
     let asked = member .before in
     let said = rw (c .before .before .entry-at .ensures) at (c .before .covers .ensures) in
-    weigh-first _ _ _ _ _ (asked .before .before .pre .0) _ (asked .is-member .ensures) (not-false _ (member .if1 .left)) (omega arith)
-    false _ said (c .if3 .left)
+    weigh-first _ _ _ _ (asked .before .before .pre .0) (asked .is-member .ensures) (not-false _ (member .if1 .left)) (omega arith)
+    false said (c .if3 .left)
 
 pub weigh-spec : {M : Type 1} → statement M
 weigh-spec =

@@ -13,7 +13,7 @@ ask-entries-requires c κs =
     let x = y .before .before .before .before in
     let fair = sym (x .before .before .fair-table .ensures) ∙ x .x .given .1 in
     let judged = sym (y .before .before .document .ensures) ∙ y .y .given .1 in
-    let both = fair-stand _ _ _ _ _ fair (c .before .before .before .subscriptions-in .ensures) (c .before .before .entries-in .ensures) in
+    let both = fair-stand _ _ fair (c .before .before .before .subscriptions-in .ensures) (c .before .before .entries-in .ensures) in
     (both .0, both .1, document-stands _ _ _ _ _ judged (c .before .node-place .ensures .0) (c .node-count .ensures .0))
 
 returns : tie.Need-returns
