@@ -13,6 +13,7 @@ use Rattle.meaning.specs.Building.{entriesFrom}
 use Rattle.shapes.specs.Shapes.{patternOf, WellFormed, entryOf, entriesIn, tableOf, WellFormedTable}
 use Rattle.shapes.specs.declared.Entry.{Entry}
 use Rattle.shapes.specs.declared.Table.{Table}
+use Rattle.meaning.specs.Numbers.{mostEntries}
 
 -- what is in a list with one element more
 last-gives : {A : Type 0} {y : A} (xs : List A) (x : A) → List·Memᴰ y (xs ++ (x ∷ [])) → (y ≡ x) ⊎ List·Memᴰ y xs
@@ -20,7 +21,7 @@ last-gives [] x (List·Memᴰ·head e) = inl e
 last-gives (z ∷ zs) x (List·Memᴰ·head e) = inr (List·Memᴰ·head e)
 last-gives (z ∷ zs) x (List·Memᴰ·tail m) = ⊎-elim inl (λ k. inr (List·Memᴰ·tail k)) (last-gives zs x m)
 
-module _ (t : Table) (sound : WellFormedTable t) (e : Entry) (room : t .count < 64) where
+module _ (t : Table) (sound : WellFormedTable t) (e : Entry) (room : t .count < mostEntries) where
   -- the table with it
   abbrev pub grown : Table
   grown = record { count = t .count + 1; entries = set (t .entries) (t .count) e }
@@ -63,7 +64,7 @@ module _ (ps : List Forest) where
     pub sound : WellFormedTable t
 
   -- without any
-  pub first-none : (t : Table) → t .count ≡ 0 → length (t .entries) ≡ 64 → FirstOnes 0 t
+  pub first-none : (t : Table) → t .count ≡ 0 → length (t .entries) ≡ mostEntries → FirstOnes 0 t
   unfolding tableOf entriesIn entriesFrom
   first-none t e full = record { within = omega arith; counted = e; are = rw e; sound = record { few = omega arith; full = full; patterns = none-there } }
     where

@@ -135,7 +135,7 @@ pub fn document(s: &[u8], d: &[u8]) -> Cur
 }
 
 // The sheet first, then the document.
-pub fn both(s: &[u8], d: &[u8]) -> Cur
+pub fn sheet_and_document(s: &[u8], d: &[u8]) -> Cur
     ensures { λ r. ⌜ r ≡ sheetDocumentPlace (now (s .entry)) (now (d .entry)) ⌝ }
 {
     match sheet(s) {
@@ -148,7 +148,7 @@ pub fn both(s: &[u8], d: &[u8]) -> Cur
 pub fn document_number(s: &[u8], d: &[u8]) -> u8
     ensures { λ r. ⌜ r ≡ documentNumber (now (s .entry)) (now (d .entry)) ⌝ }
 {
-    match both(s, d) {
+    match sheet_and_document(s, d) {
         Cur::At(x) => 0,
         Cur::No(m) => m,
     }
@@ -172,7 +172,7 @@ pub fn node_count(d: &[u8]) -> usize
 pub fn label_number(s: &[u8], d: &[u8], n: u64) -> u8
     ensures { λ r. ⌜ r ≡ labelNumber (now (s .entry)) (now (d .entry)) n ⌝ }
 {
-    match both(s, d) {
+    match sheet_and_document(s, d) {
         Cur::At(x) => {
             if n < 1 {
                 return NOT_THERE;
@@ -192,7 +192,7 @@ pub fn label_number(s: &[u8], d: &[u8], n: u64) -> u8
 pub fn label_bytes<'a>(s: &'a [u8], d: &'a [u8], n: u64) -> &'a [u8]
     ensures { λ r. ⌜ now r ≡ labelPart (now (s .entry)) (now (d .entry)) n ⌝ }
 {
-    match both(s, d) {
+    match sheet_and_document(s, d) {
         Cur::At(x) => {
             if n < 1 {
                 return &s[..0];

@@ -13,11 +13,12 @@ use Rattle.base.specs.Bools.{true-or-false}
 use Rattle.places.specs.NumberRead.{numberIn}
 use Rattle.tables.specs.declared.Entries.{Entries}
 use Rattle.tables.specs.TableSection.{entryTaken}
+use Rattle.meaning.specs.Numbers.{mostEntries}
 
 module _ (t : List ℕ) (v : Entries) where
   -- those of the first n entries
   pub record FirstMembers (n : ℕ) (members : List ℕ) : Type 0 where
-    pub full : length members ≡ 64
+    pub full : length members ≡ mostEntries
     pub each : (j : ℕ) → j < n → getD members j 0 ≡ entryTaken t (getD (v .places) j 0) .members
 
   -- those of all
@@ -25,11 +26,11 @@ module _ (t : List ℕ) (v : Entries) where
   MembersStand = FirstMembers (v .count)
 
   -- of no entry
-  pub no-members : (members : List ℕ) → length members ≡ 64 → FirstMembers 0 members
+  pub no-members : (members : List ℕ) → length members ≡ mostEntries → FirstMembers 0 members
   no-members members full = record { full = full; each = λ j h. absurd (omega arith) }
 
   -- and of one more
-  pub one-more : (n : ℕ) (members : List ℕ) (m : ℕ) → n < 64 → FirstMembers n members → m ≡ numberIn t (getD (v .places) n 0) 8
+  pub one-more : (n : ℕ) (members : List ℕ) (m : ℕ) → n < mostEntries → FirstMembers n members → m ≡ numberIn t (getD (v .places) n 0) 8
       → FirstMembers (n + 1) (set members n m)
   unfolding entryTaken
   one-more n members m h z e = record { full = length-set members n m ∙ z .full; each = each }

@@ -10,10 +10,10 @@ use subscriptions::Subscriptions;
 use subscriptions::pattern_at;
 use subscriptions::subscriptions_in;
 use tables::Entries;
-use tables::both;
 use tables::entries_in;
 use tables::entry_at;
 use tables::members_at;
+use tables::sheet_and_table;
 ghost use Prim.Native.Nat.{_≤_, _<_};
 ghost use mathlib.Core.Path.{_≡_};
 ghost use Rattle.base.specs.Lists.{every};
@@ -130,7 +130,7 @@ fn is_fair(s: &[u8], subscriptions: Subscriptions, t: &[u8], entries: Entries) -
 pub fn fair_table(s: &[u8], t: &[u8]) -> Cur
     ensures { λ r. ⌜ r ≡ fairPlace (now (s .entry)) (now (t .entry)) ⌝ }
 {
-    match both(s, t) {
+    match sheet_and_table(s, t) {
         Cur::At(x) => {
             if is_fair(s, subscriptions_in(s), t, entries_in(t)) {
                 return Cur::At(x);

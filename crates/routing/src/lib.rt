@@ -1,9 +1,9 @@
 // Routing: which subscriptions of a sheet a document is delivered to.
 use base::Cur;
-use documents::both;
 use documents::document;
 use documents::node_count;
 use documents::node_place;
+use documents::sheet_and_document;
 use fairness::fair_table;
 use matching::matches;
 use matching::try_pattern;
@@ -71,7 +71,7 @@ fn deliver(s: &[u8], d: &[u8], at: usize, n: usize) -> u64
 pub fn plain_route(s: &[u8], d: &[u8]) -> Routed
     ensures { λ r. ⌜ r ≡ plainAnswer (now (s .entry)) (now (d .entry)) ⌝ }
 {
-    match both(s, d) {
+    match sheet_and_document(s, d) {
         Cur::At(x) => Routed::Delivered(deliver(s, d, node_place(d), node_count(d))),
         Cur::No(m) => Routed::Refused(m),
     }
@@ -95,7 +95,7 @@ fn ask_numbered(s: &[u8], i: u64, d: &[u8], at: usize, n: usize) -> Asked
 pub fn subscription_matches(s: &[u8], d: &[u8], i: u64) -> Asked
     ensures { λ r. ⌜ r ≡ matchesAnswer (now (s .entry)) (now (d .entry)) i ⌝ }
 {
-    match both(s, d) {
+    match sheet_and_document(s, d) {
         Cur::At(x) => ask_numbered(s, i, d, node_place(d), node_count(d)),
         Cur::No(m) => Asked::Refused(m),
     }

@@ -13,10 +13,11 @@ use Rattle.reading.specs.SheetJudged.{SheetStands}
 use Rattle.subscriptions.specs.declared.Subscriptions.{Subscriptions}
 use Rattle.subscriptions.specs.Taken.{patternAt, subscriptionsOf}
 use Rattle.subscriptions.specs.TakenRead.{subscriptions-counted, subscription-taken}
+use Rattle.meaning.specs.Numbers.{mostPatterns}
 
 -- as many as the sheet has patterns, at most 64, each the pattern at its place, well formed
 pub record SubscriptionsStand (s : List ℕ) (v : Subscriptions) : Type 0 where
-  pub few : v .count ≤ 64
+  pub few : v .count ≤ mostPatterns
   pub counted : v .count ≡ length (sheetAt s .patterns)
   pub taken : (i : ℕ) → i < v .count → (patternOf (patternAt s (getD (v .places) i 0)) ≡ getD (sheetAt s .patterns) i none)
       × WellFormed (patternAt s (getD (v .places) i 0))

@@ -9,13 +9,14 @@ use Rattle.shapes.specs.Shapes.{noSteps}
 use Rattle.shapes.specs.declared.Pattern.{Pattern}
 use Rattle.subscriptions.specs.declared.Subscriptions.{Subscriptions}
 use Rattle.reading.specs.SheetPlaces.{stepsAt, afterPattern, patternCountAt}
+use Rattle.meaning.specs.Numbers.{mostPatterns, mostSteps}
 
 -- the pattern at x: its steps and, behind them, what follows in the bytes; none where the count or the bytes don't allow it
 unfoldable pub patternAt : List ℕ → ℕ → Pattern
 patternAt s x =
     pick (ltb x (length s))
-    (pick (leb (getD s x 0) 16)
-    (pick (leb (3 * getD s x 0) (length s - (x + 1))) (record { count = getD s x 0; steps = stepsAt s (x + 1) 16 }) noSteps)
+    (pick (leb (getD s x 0) mostSteps)
+    (pick (leb (3 * getD s x 0) (length s - (x + 1))) (record { count = getD s x 0; steps = stepsAt s (x + 1) mostSteps }) noSteps)
     noSteps)
     noSteps
 
@@ -29,8 +30,8 @@ patternPlaces s = standing itself (afterPattern s)
 
 -- how many subscriptions a sheet has; none where the count is outside its limits
 unfoldable pub subscriptionCount : List ℕ → ℕ
-subscriptionCount s = pick (leb (getD s (patternCountAt s) 0) 64) (getD s (patternCountAt s) 0) 0
+subscriptionCount s = pick (leb (getD s (patternCountAt s) 0) mostPatterns) (getD s (patternCountAt s) 0) 0
 
 -- the count, and the place of each pattern; behind those the places go on in the same way
 unfoldable pub subscriptionsOf : List ℕ → Subscriptions
-subscriptionsOf s = record { count = subscriptionCount s; places = patternPlaces s (patternCountAt s + 1) 64 }
+subscriptionsOf s = record { count = subscriptionCount s; places = patternPlaces s (patternCountAt s + 1) mostPatterns }

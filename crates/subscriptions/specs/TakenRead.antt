@@ -9,7 +9,7 @@ use borrow.Author.Tests.{ltb-true, leb-true, le-leb, le-ltb}
 use Rattle.base.specs.Choice.{pick}
 use Rattle.base.specs.Standing.{placeAfter, take-standing, length-standing, getD-standing, run-at}
 use Rattle.base.specs.declared.Cur.the-variants.{At}
-use Rattle.meaning.specs.Numbers.{countOutside, mostSteps}
+use Rattle.meaning.specs.Numbers.{countOutside, mostSteps, mostPatterns}
 use Rattle.meaning.specs.Reader.{read}
 use Rattle.meaning.specs.Forest.{Forest, none, forest, stepsOf}
 use Rattle.meaning.specs.Sections.{Sheet, sheet, pattern, steps}
@@ -94,9 +94,9 @@ module _ (s : List ℕ) (sh : Sheet) (left : List ℕ) (h : sheet s ≡ read sh 
       let stand = patterns-stand s sh left h in
       let all : length (sh .patterns) ≡ n =
       ap (λ (t : Sheet). length (t .patterns)) sheet-is ∙ length-standing (forestAt s) (afterPattern s) start n in
-      let few : n ≤ 64 = leb-true n 64 (stand .few) in
+      let few : n ≤ mostPatterns = leb-true n mostPatterns (stand .few) in
       let there : getD ((subscriptionsOf s) .places) i 0 ≡ placeAfter (afterPattern s) start i =
-      getD-standing itself (afterPattern s) start 64 i 0 (omega arith) in
+      getD-standing itself (afterPattern s) start mostPatterns i 0 (omega arith) in
       let which : getD (sh .patterns) i none ≡ forestAt s (placeAfter (afterPattern s) start i) =
       ap (λ (t : Sheet). getD (t .patterns) i none) sheet-is ∙ getD-standing (forestAt s) (afterPattern s) start n i none (omega arith) in
       let each = patternSection s (getD s 0 0) in

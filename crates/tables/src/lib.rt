@@ -100,7 +100,7 @@ fn table(s: &[u8], t: &[u8]) -> Cur
 }
 
 // The sheet first, then the table.
-pub fn both(s: &[u8], t: &[u8]) -> Cur
+pub fn sheet_and_table(s: &[u8], t: &[u8]) -> Cur
     ensures { λ r. ⌜ r ≡ sheetTablePlace (now (s .entry)) (now (t .entry)) ⌝ }
 {
     match sheet(s) {

@@ -8,11 +8,11 @@ use Rattle.documents.specs.DocumentJudged.{document-number}
 
 returns : tie.Need-returns
 unfolding numberAt
-returns c = ap numberAt (sym (c .before .x .given .1) ∙ c .before .before .before .both .ensures) ∙ document-number _ _
+returns c = ap numberAt (sym (c .before .x .given .1) ∙ c .before .before .before .sheet-and-document .ensures) ∙ document-number _ _
 
 returns-2 : tie.Need-returns-2
 unfolding numberAt
-returns-2 c = ap numberAt (sym (c .before .m .given .1) ∙ c .before .before .before .both .ensures) ∙ document-number _ _
+returns-2 c = ap numberAt (sym (c .before .m .given .1) ∙ c .before .before .before .sheet-and-document .ensures) ∙ document-number _ _
 
 pub document-number-spec : {M : Type 1} → statement M
 document-number-spec =

@@ -9,30 +9,30 @@ use Rattle.documents.specs.LabelNumbers.{part-refused, part-zero, part-o
 returns : tie.Need-returns
 returns c =
     let read = c .before .before .before in
-    part-zero _ _ _ _ (sym (read .before .before .both .ensures) ∙ read .x .given .1) (omega arith)
+    part-zero _ _ _ _ (sym (read .before .before .sheet-and-document .ensures) ∙ read .x .given .1) (omega arith)
 
 returns-2 : tie.Need-returns-2
 returns-2 c =
     let read = c .before .before .before .before .before .before in
     rw (c .text-at .ensures, c .before .after-labels .ensures .0)
-    (part-of-sheet _ _ _ _ (sym (read .before .before .both .ensures) ∙ read .x .given .1) (omega arith) (omega arith))
+    (part-of-sheet _ _ _ _ (sym (read .before .before .sheet-and-document .ensures) ∙ read .x .given .1) (omega arith) (omega arith))
 
 returns-3 : tie.Need-returns-3
 returns-3 c =
     let counted = c .before .before .before .before .before in
     let read = counted .before .before .before in
     rw (c .text-at2 .ensures, c .before .after-labels2 .ensures .0, counted .byte-at .ensures .0)
-    (part-of-document _ _ _ _ (sym (read .before .before .both .ensures) ∙ read .x .given .1) (omega arith) (omega arith))
+    (part-of-document _ _ _ _ (sym (read .before .before .sheet-and-document .ensures) ∙ read .x .given .1) (omega arith) (omega arith))
 
 returns-4 : tie.Need-returns-4
 returns-4 c =
     let read = c .before .before .before .before .before .before .before in
-    part-over _ _ _ _ (sym (read .before .before .both .ensures) ∙ read .x .given .1) (omega arith) (omega arith)
+    part-over _ _ _ _ (sym (read .before .before .sheet-and-document .ensures) ∙ read .x .given .1) (omega arith) (omega arith)
 
 returns-5 : tie.Need-returns-5
 returns-5 c =
     let refused = c .before .before in
-    part-refused _ _ _ _ (sym (refused .before .before .both .ensures) ∙ refused .m .given .1)
+    part-refused _ _ _ _ (sym (refused .before .before .sheet-and-document .ensures) ∙ refused .m .given .1)
 
 pub label-bytes-spec : {M : Type 1} → statement M
 label-bytes-spec =

@@ -6,6 +6,7 @@ use borrow.Author.Needs.{needs}
 use Rattle.documents.proofs.nodes.Statement.{statement}
 use Rattle.documents.proofs.nodes.Tie as tie
 use Rattle.documents.specs.DocumentSection.{nodesPlace}
+use Rattle.meaning.specs.Numbers.{mostNodes}
 
 returns : tie.Need-returns
 unfolding nodesPlace
@@ -22,7 +23,7 @@ returns-3 c = rw (← (c .before .pair-at .ensures .0)) (search picks depth 15)
 returns-4 : tie.Need-returns-4
 unfolding nodesPlace
 returns-4 c =
-    let over : 1024 < c .before .before .pair-at .result = omega arith in
+    let over : mostNodes < c .before .before .pair-at .result = omega arith in
     rw (← (c .before .before .pair-at .ensures .0)) (search picks depth 15)
 
 returns-5 : tie.Need-returns-5

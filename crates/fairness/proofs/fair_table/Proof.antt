@@ -8,21 +8,21 @@ use Rattle.fairness.proofs.fair_table.Tie as tie
 is-fair-requires : tie.Need-is-fair-requires
 is-fair-requires c κs =
     let x = c .before .before .before in
-    let judged = sym (x .before .before .both .ensures) ∙ x .x .given .1 in
+    let judged = sym (x .before .before .sheet-and-table .ensures) ∙ x .x .given .1 in
     sheet-table-stand _ _ judged (c .before .subscriptions-in .ensures) (c .entries-in .ensures)
 
 returns : tie.Need-returns
 returns c =
     let x = c .before .before .before .before .before in
-    place-fair _ _ (sym (x .before .before .both .ensures) ∙ x .x .given .1) (c .before .is-fair .ensures) (c .if1 .taken)
+    place-fair _ _ (sym (x .before .before .sheet-and-table .ensures) ∙ x .x .given .1) (c .before .is-fair .ensures) (c .if1 .taken)
 
 returns-2 : tie.Need-returns-2
 returns-2 c =
     let x = c .before .before .before .before .before in
-    place-not-fair _ _ (sym (x .before .before .both .ensures) ∙ x .x .given .1) (c .before .is-fair .ensures) (c .if1 .left)
+    place-not-fair _ _ (sym (x .before .before .sheet-and-table .ensures) ∙ x .x .given .1) (c .before .is-fair .ensures) (c .if1 .left)
 
 returns-3 : tie.Need-returns-3
-returns-3 c = place-refused _ _ (sym (c .before .before .before .both .ensures) ∙ c .before .m .given .1)
+returns-3 c = place-refused _ _ (sym (c .before .before .before .sheet-and-table .ensures) ∙ c .before .m .given .1)
 
 pub fair-table-spec : {M : Type 1} → statement M
 fair-table-spec =

@@ -7,6 +7,7 @@ use native.Mathlib.Omega.{arith}
 use borrow.Author.Needs.{needs}
 use Rattle.labels.proofs.label.Statement.{statement}
 use Rattle.labels.proofs.label.Tie as tie
+use Rattle.meaning.specs.Numbers.{longestLabel}
 
 returns : tie.Need-returns
 unfolding labelSection
@@ -19,7 +20,7 @@ returns-2 c = rw (← (c .before .byte-at .ensures .0)) (search picks depth 15)
 returns-3 : tie.Need-returns-3
 unfolding labelSection
 returns-3 c =
-    let over : 60 < c .before .before .byte-at .result = omega arith in
+    let over : longestLabel < c .before .before .byte-at .result = omega arith in
     rw (← (c .before .before .byte-at .ensures .0)) (search picks depth 15)
 
 returns-4 : tie.Need-returns-4

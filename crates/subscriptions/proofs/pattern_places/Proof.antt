@@ -9,12 +9,13 @@ use Prim.Native.Nat.{_+_, _*_, _-_, _≤_}
 use Rattle.base.specs.Standing.{FilledUpTo, fill-starts, fill-goes-on, fill-ends}
 use Rattle.subscriptions.proofs.pattern_places.Statement.{statement}
 use Rattle.subscriptions.proofs.pattern_places.Tie as tie
+use Rattle.meaning.specs.Numbers.{mostPatterns}
 
 abbrev Inv-loop : tie.InvT-loop
-Inv-loop s p places₀ i₀ x₀ places i x = (length places ≡ 64) × (i ≤ 64) × (x ≤ p + 766 * i) × FilledUpTo itself (afterPattern s) p places i x
+Inv-loop s p places₀ i₀ x₀ places i x = (length places ≡ mostPatterns) × (i ≤ mostPatterns) × (x ≤ p + 766 * i) × FilledUpTo itself (afterPattern s) p places i x
 
 abbrev μ-loop : tie.MeasureT-loop
-μ-loop s p places₀ i₀ x₀ places i x = 64 - i
+μ-loop s p places₀ i₀ x₀ places i x = mostPatterns - i
 
 loop-holds : tie.Need-loop-holds Inv-loop μ-loop
 loop-holds c = (refl, omega arith, omega arith, fill-starts _ _ _ _)
@@ -30,7 +31,7 @@ returns : tie.Need-returns Inv-loop μ-loop
 unfolding patternPlaces
 returns c =
     let l = c .before .loop in
-    fill-ends _ _ _ (l .places) 64 (l .i) _ (l .inv .0) (omega arith) (l .inv .3)
+    fill-ends _ _ _ (l .places) mostPatterns (l .i) _ (l .inv .0) (omega arith) (l .inv .3)
 
 pub pattern-places-spec : {M : Type 1} → statement M
 pattern-places-spec =

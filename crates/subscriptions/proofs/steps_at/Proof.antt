@@ -8,12 +8,13 @@ use Prim.Native.Nat.{_+_, _*_, _-_, _≤_}
 use Rattle.base.specs.Standing.{FilledUpTo, fill-starts, fill-goes-on, fill-ends}
 use Rattle.subscriptions.proofs.steps_at.Statement.{statement}
 use Rattle.subscriptions.proofs.steps_at.Tie as tie
+use Rattle.meaning.specs.Numbers.{mostSteps}
 
 abbrev Inv-loop : tie.InvT-loop
-Inv-loop s p steps₀ i₀ x₀ steps i x = (length steps ≡ 16) × (i ≤ 16) × (x ≤ p + 3 * i) × FilledUpTo (stepAtPlace s) afterStep p steps i x
+Inv-loop s p steps₀ i₀ x₀ steps i x = (length steps ≡ mostSteps) × (i ≤ mostSteps) × (x ≤ p + 3 * i) × FilledUpTo (stepAtPlace s) afterStep p steps i x
 
 abbrev μ-loop : tie.MeasureT-loop
-μ-loop s p steps₀ i₀ x₀ steps i x = 16 - i
+μ-loop s p steps₀ i₀ x₀ steps i x = mostSteps - i
 
 loop-holds : tie.Need-loop-holds Inv-loop μ-loop
 loop-holds c = (refl, omega arith, omega arith, fill-starts _ _ _ _)
@@ -29,7 +30,7 @@ returns : tie.Need-returns Inv-loop μ-loop
 unfolding stepsAt
 returns c =
     let l = c .before .loop in
-    fill-ends _ _ _ (l .steps) 16 (l .i) _ (l .inv .0) (omega arith) (l .inv .3)
+    fill-ends _ _ _ (l .steps) mostSteps (l .i) _ (l .inv .0) (omega arith) (l .inv .3)
 
 pub steps-at-spec : {M : Type 1} → statement M
 steps-at-spec =

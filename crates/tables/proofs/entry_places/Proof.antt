@@ -9,12 +9,13 @@ use Rattle.base.specs.Standing.{FilledUpTo, fill-starts, fill-goes-on, fill-end
 use Rattle.tables.proofs.entry_places.Statement.{statement}
 use Rattle.tables.proofs.entry_places.Tie as tie
 use Rattle.tables.specs.TableSection.{afterEntry, entryPlaces}
+use Rattle.meaning.specs.Numbers.{mostEntries}
 
 abbrev Inv-loop : tie.InvT-loop
-Inv-loop t places₀ i₀ x₀ places i x = (length places ≡ 64) × (i ≤ 64) × (x ≤ 1 + 774 * i) × FilledUpTo itself (afterEntry t) 1 places i x
+Inv-loop t places₀ i₀ x₀ places i x = (length places ≡ mostEntries) × (i ≤ mostEntries) × (x ≤ 1 + 774 * i) × FilledUpTo itself (afterEntry t) 1 places i x
 
 abbrev μ-loop : tie.MeasureT-loop
-μ-loop t places₀ i₀ x₀ places i x = 64 - i
+μ-loop t places₀ i₀ x₀ places i x = mostEntries - i
 
 loop-holds : tie.Need-loop-holds Inv-loop μ-loop
 loop-holds c = (refl, omega arith, omega arith, fill-starts _ _ _ _)
@@ -30,7 +31,7 @@ returns : tie.Need-returns Inv-loop μ-loop
 unfolding entryPlaces
 returns c =
     let l = c .before .loop in
-    fill-ends _ _ _ (l .places) 64 (l .i) _ (l .inv .0) (omega arith) (l .inv .3)
+    fill-ends _ _ _ (l .places) mostEntries (l .i) _ (l .inv .0) (omega arith) (l .inv .3)
 
 pub entry-places-spec : {M : Type 1} → statement M
 entry-places-spec =

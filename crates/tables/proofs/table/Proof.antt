@@ -7,6 +7,7 @@ use borrow.Author.Needs.{needs}
 use Rattle.tables.proofs.table.Statement.{statement}
 use Rattle.tables.proofs.table.Tie as tie
 use Rattle.tables.specs.TableSection.{tableSection}
+use Rattle.meaning.specs.Numbers.{mostEntries}
 
 returns : tie.Need-returns
 unfolding tableSection
@@ -15,7 +16,7 @@ returns c = search picks depth 15
 returns-2 : tie.Need-returns-2
 unfolding tableSection
 returns-2 c =
-    let over : 64 < c .before .byte-at .result = omega arith in
+    let over : mostEntries < c .before .byte-at .result = omega arith in
     rw (← (c .before .byte-at .ensures .0)) (search picks depth 15)
 
 returns-3 : tie.Need-returns-3

@@ -6,6 +6,7 @@ use borrow.Author.Needs.{needs}
 use Rattle.reading.proofs.patterns.pattern.Statement.{statement}
 use Rattle.reading.proofs.patterns.pattern.Tie as tie
 use Rattle.reading.specs.SheetSection.{patternSection}
+use Rattle.meaning.specs.Numbers.{mostSteps}
 
 returns : tie.Need-returns
 unfolding patternSection
@@ -14,7 +15,7 @@ returns c = search picks depth 15
 returns-2 : tie.Need-returns-2
 unfolding patternSection
 returns-2 c =
-    let over : 16 < c .before .byte-at .result = omega arith in
+    let over : mostSteps < c .before .byte-at .result = omega arith in
     rw (← (c .before .byte-at .ensures .0)) (search picks depth 15)
 
 returns-3 : tie.Need-returns-3
