@@ -76,7 +76,7 @@ module _ (out : List ℕ) where
     merge-written t n long = rw long (gives-written mergeAnswer out clipped (patternBytes p) room said now over t)
 
     -- where there is none it is refused with 10
-    pub merge-no-room : room ≡ false → Gives mergeAnswer out (markedSays p clipped) (merged.Refused 10) now
+    pub merge-no-room : room ≡ false → Gives mergeAnswer out (markedSays p clipped) (merged.Refused noRoom) now
     unfolding markedSays mergeAnswer
     merge-no-room = gives-no-room mergeAnswer out clipped (patternBytes p) room said now over
 
@@ -111,7 +111,7 @@ module _ (out : List ℕ) where
     build-written t n long = rw long (gives-written buildAnswer out rounds (tableBytes es) room said now over t)
 
     -- where there is none it is refused with 10
-    pub build-no-room : room ≡ false → Gives buildAnswer out (writes rounds (tableBytes es)) (built.Refused 10) now
+    pub build-no-room : room ≡ false → Gives buildAnswer out (writes rounds (tableBytes es)) (built.Refused noRoom) now
     unfolding buildAnswer
     build-no-room = gives-no-room buildAnswer out rounds (tableBytes es) room said now over
 

@@ -83,7 +83,7 @@ unfolding coversSays
 covers-there sh i j p q said there e f is = pick-true _ _ _ (bothThere sh i j) there (ap asked.Said (is ∙ ap₂ covers e f))
 
 -- where one is not there, it is refused
-pub covers-not-there : (sh : Sheet) (i j : ℕ) → bothThere sh i j ≡ false → asked.Refused 11 ≡ coversSays sh i j
+pub covers-not-there : (sh : Sheet) (i j : ℕ) → bothThere sh i j ≡ false → asked.Refused notThere ≡ coversSays sh i j
 unfolding coversSays
 covers-not-there sh i j there = pick-false _ _ _ (bothThere sh i j) there refl
 

@@ -18,6 +18,7 @@ use Rattle.places.specs.Reached.{was-reached, was-refused}
 use Rattle.documents.specs.DocumentJudged.{both-judged, sheetDocumentPlace}
 use Rattle.documents.specs.DocumentSection.{documentAt}
 use Rattle.labels.specs.LabelSection.{length-texts}
+use Rattle.meaning.specs.Numbers.{notThere}
 
 module _ {B : Type 0} (s d : List ℕ) (refuse : ℕ → B) (next : Sheet → Document → B) where
   -- both were read: what follows is of the sheet and the document that stand there
@@ -47,12 +48,12 @@ module _ (s d : List ℕ) (n : ℕ) where
   number-there x h a b = sym (both-read s d _ _ x h ∙ rw (labels-counted, le-leb 1 n a, le-leb n (getD s 0 0 + getD d 0 0) b))
 
   -- 0 is no label
-  pub number-zero : (x : ℕ) → sheetDocumentPlace s d ≡ At x → n < 1 → 11 ≡ labelNumber s d n
+  pub number-zero : (x : ℕ) → sheetDocumentPlace s d ≡ At x → n < 1 → notThere ≡ labelNumber s d n
   unfolding labelNumber isLabel pick
   number-zero x h a = sym (both-read s d _ _ x h ∙ rw (lt-leb 1 n a))
 
   -- nor is a number over S + D
-  pub number-over : (x : ℕ) → sheetDocumentPlace s d ≡ At x → 1 ≤ n → getD s 0 0 + getD d 0 0 < n → 11 ≡ labelNumber s d n
+  pub number-over : (x : ℕ) → sheetDocumentPlace s d ≡ At x → 1 ≤ n → getD s 0 0 + getD d 0 0 < n → notThere ≡ labelNumber s d n
   unfolding labelNumber isLabel pick
   number-over x h a b = sym (both-read s d _ _ x h ∙ rw (labels-counted, le-leb 1 n a, lt-leb n (getD s 0 0 + getD d 0 0) b))
 

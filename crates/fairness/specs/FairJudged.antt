@@ -97,12 +97,12 @@ module _ (s t : List ℕ) where
       (subscriptions-stand s v sound e, entries-stand s t y (a .2) w f)
 
   -- the bytes of both first, 12 last
-  last : fairPlace s t ≡ andThen (sheetTablePlace s t) (λ x. pick (fairAt s t) (At x) (No 12))
+  last : fairPlace s t ≡ andThen (sheetTablePlace s t) (λ x. pick (fairAt s t) (At x) (No notFair))
   unfolding fairPlace fairTableSection sheetTablePlace andThen
   last = go (sheetPlace s)
     where
-      go : (c : Cur) → andThen c (λ x. andThen (tablePlace s t) (λ y. pick (fairAt s t) (At y) (No 12)))
-          ≡ andThen (andThen c (λ x. tablePlace s t)) (λ y. pick (fairAt s t) (At y) (No 12))
+      go : (c : Cur) → andThen c (λ x. andThen (tablePlace s t) (λ y. pick (fairAt s t) (At y) (No notFair)))
+          ≡ andThen (andThen c (λ x. tablePlace s t)) (λ y. pick (fairAt s t) (At y) (No notFair))
       go (At x) = refl
       go (No n) = refl
 
@@ -112,7 +112,7 @@ module _ (s t : List ℕ) where
   place-fair h e k = sym (last ∙ rw (h, ← e, k))
 
   -- it is not
-  pub place-not-fair : {y : ℕ} {r : Bool} → sheetTablePlace s t ≡ At y → r ≡ fairAt s t → r ≡ false → No 12 ≡ fairPlace s t
+  pub place-not-fair : {y : ℕ} {r : Bool} → sheetTablePlace s t ≡ At y → r ≡ fairAt s t → r ≡ false → No notFair ≡ fairPlace s t
   unfolding andThen pick
   place-not-fair h e k = sym (last ∙ rw (h, ← e, k))
 

@@ -15,6 +15,7 @@ use Rattle.base.specs.declared.Cur.{Cur}
 use Rattle.base.specs.declared.Cur.the-variants.{At, No}
 use Rattle.meaning.specs.Reader.{Reading, read, refused, Reader, go-on, _>>=_, _>>_, unless, byte, bytes, end, give, repeat, numberOf}
 use Rattle.places.specs.Bytes.{numberAt}
+use Rattle.meaning.specs.Numbers.{bytesRemain, endsEarly}
 
 -- ---- choices
 
@@ -106,14 +107,14 @@ module _ {A B : Type 0} where
   then-answer s a b (No n) next f h = refl
 
 -- n bytes of a list are its first n, where there are so many
-pub bytes-at : (n : ℕ) (l : List ℕ) → bytes n l ≡ pick (leb n (length l)) (read (take n l) (drop n l)) (refused 1)
+pub bytes-at : (n : ℕ) (l : List ℕ) → bytes n l ≡ pick (leb n (length l)) (read (take n l) (drop n l)) (refused endsEarly)
 unfolding bytes repeat give byte _>>=_ go-on pick
 bytes-at zero l = rw (leb·zero (length l))
 bytes-at (suc n) [] = rw (leb·suc-zero n)
 bytes-at (suc n) (x ∷ l) = rw (leb·suc-suc n (length l), bytes-at n l) (go (leb n (length l)))
   where
-    go : (b : Bool) → go-on (pick b (read (take n l) (drop n l)) (refused 1)) (λ later. give (x ∷ later))
-        ≡ pick b (read (x ∷ take n l) (drop n l)) (refused 1)
+    go : (b : Bool) → go-on (pick b (read (take n l) (drop n l)) (refused endsEarly)) (λ later. give (x ∷ later))
+        ≡ pick b (read (x ∷ take n l) (drop n l)) (refused endsEarly)
     go true = refl
     go false = refl
 
@@ -132,11 +133,11 @@ module _ {A B : Type 0} where
 
 module _ {B : Type 0} (s : List ℕ) where
   -- a byte, where there is one
-  pub then-byte : (at : ℕ) (next : ℕ → Reader B) → _>>=_ byte next (drop at s) ≡ pick (ltb at (length s)) (next (getD s at 0) (drop (at + 1) s)) (refused 1)
+  pub then-byte : (at : ℕ) (next : ℕ → Reader B) → _>>=_ byte next (drop at s) ≡ pick (ltb at (length s)) (next (getD s at 0) (drop (at + 1) s)) (refused endsEarly)
   unfolding _>>=_ byte go-on pick
   then-byte at next = go (ltb at (length s)) refl
     where
-      go : (b : Bool) → ltb at (length s) ≡ b → go-on (byte (drop at s)) next ≡ pick b (next (getD s at 0) (drop (at + 1) s)) (refused 1)
+      go : (b : Bool) → ltb at (length s) ≡ b → go-on (byte (drop at s)) next ≡ pick b (next (getD s at 0) (drop (at + 1) s)) (refused endsEarly)
       go true e = rw (drop-cons s at 0 (ltb-true at (length s) e), add-one at)
       go false e = rw (drop-of-length-le s (ltb-false at (length s) e))
 
@@ -148,20 +149,20 @@ module _ {B : Type 0} (s : List ℕ) where
 
   -- n bytes, where there are so many
   pub then-bytes : (n at : ℕ) (next : List ℕ → Reader B)
-      → _>>=_ (bytes n) next (drop at s) ≡ pick (leb n (length s - at)) (next (take n (drop at s)) (drop (at + n) s)) (refused 1)
+      → _>>=_ (bytes n) next (drop at s) ≡ pick (leb n (length s - at)) (next (take n (drop at s)) (drop (at + n) s)) (refused endsEarly)
   unfolding _>>=_ go-on pick
   then-bytes n at next = rw (bytes-at n (drop at s), length-drop at s, drop-drop n at s) (go (leb n (length s - at)))
     where
-      go : (b : Bool) → go-on (pick b (read (take n (drop at s)) (drop (at + n) s)) (refused 1)) next
-          ≡ pick b (next (take n (drop at s)) (drop (at + n) s)) (refused 1)
+      go : (b : Bool) → go-on (pick b (read (take n (drop at s)) (drop (at + n) s)) (refused endsEarly)) next
+          ≡ pick b (next (take n (drop at s)) (drop (at + n) s)) (refused endsEarly)
       go true = refl
       go false = refl
 
   -- no byte remains
-  pub then-end : (at : ℕ) (next : Reader B) → _>>_ end next (drop at s) ≡ pick (leb (length s) at) (next (drop at s)) (refused 2)
+  pub then-end : (at : ℕ) (next : Reader B) → _>>_ end next (drop at s) ≡ pick (leb (length s) at) (next (drop at s)) (refused bytesRemain)
   unfolding _>>_ end go-on pick
   then-end at next = go (leb (length s) at) refl
     where
-      go : (b : Bool) → leb (length s) at ≡ b → go-on (end (drop at s)) (λ a. next) ≡ pick b (next (drop at s)) (refused 2)
+      go : (b : Bool) → leb (length s) at ≡ b → go-on (end (drop at s)) (λ a. next) ≡ pick b (next (drop at s)) (refused bytesRemain)
       go true e = rw (drop-of-length-le s (leb-true (length s) at e))
       go false e = rw (drop-cons s at 0 (leb-false (length s) at e))

@@ -18,6 +18,7 @@ use Rattle.places.specs.Answer.{answer, answer-pick, then-answer, then-g
 use Rattle.places.specs.Answer.{passed, passed-on, pick-both, pick-either, pick-not}
 use Rattle.places.specs.NumberRead.{numberIn, then-number, then-pair}
 use Rattle.places.specs.Section.{Section, judgedAs}
+use Rattle.meaning.specs.Numbers.{endsEarly, bytesRemain}
 
 -- ---- one field, and what follows it
 
@@ -32,7 +33,7 @@ module _ {A : Type 0} (s : List ℕ) where
 
 -- within the bytes
 module _ (s : List ℕ) (x : ℕ) where
-  pub end-judged : pick (leb (length s) x) (At x) (No 2) ≡ endPlace s x
+  pub end-judged : pick (leb (length s) x) (At x) (No bytesRemain) ≡ endPlace s x
   unfolding endPlace
   end-judged = refl
 
@@ -75,26 +76,26 @@ module _ {A : Type 0} {s : List ℕ} {x : ℕ} where
 
   -- the end
   abbrev pub endThen : (a : A) → Section s (_>>_ end (give a)) x
-  endThen a = judgedAs (endPlace s x) (guarded (leb (length s) x) 2 (given a) (then-end s x (give a)) (λ e h. h)) (end-judged s x)
+  endThen a = judgedAs (endPlace s x) (guarded (leb (length s) x) bytesRemain (given a) (then-end s x (give a)) (λ e h. h)) (end-judged s x)
 
   -- a byte
   abbrev pub byteThen : {next : ℕ → Reader A} → ((v : ℕ) → Section s (next v) (x + 1)) → Section s (_>>=_ byte next) x
-  byteThen {next = next} f = guarded (ltb x (length s)) 1 (f (getD s x 0)) (then-byte s x next) (λ e h. inside-one s x e)
+  byteThen {next = next} f = guarded (ltb x (length s)) endsEarly (f (getD s x 0)) (then-byte s x next) (λ e h. inside-one s x e)
 
   -- n bytes
   abbrev pub bytesThen : (n : ℕ) {next : List ℕ → Reader A} → ((t : List ℕ) → Section s (next t) (x + n)) → Section s (_>>=_ (bytes n) next) x
-  bytesThen n {next = next} f = guarded (leb n (length s - x)) 1 (f (take n (drop x s))) (then-bytes s n x next) (λ e h. inside-more s x n e h)
+  bytesThen n {next = next} f = guarded (leb n (length s - x)) endsEarly (f (take n (drop x s))) (then-bytes s n x next) (λ e h. inside-more s x n e h)
 
   -- a number of n bytes
   abbrev pub numberThen : (n : ℕ) {next : ℕ → Reader A} → ((v : ℕ) → Section s (next v) (x + n)) → Section s (_>>=_ (number n) next) x
-  numberThen n {next = next} f = guarded (leb n (length s - x)) 1 (f (numberIn s x n)) (then-number s n x next) (λ e h. inside-more s x n e h)
+  numberThen n {next = next} f = guarded (leb n (length s - x)) endsEarly (f (numberIn s x n)) (then-number s n x next) (λ e h. inside-more s x n e h)
 
   -- of two bytes, each of which is looked for
   abbrev pub pairThen : {next : ℕ → Reader A} → ((v : ℕ) → Section s (next v) (x + 2)) → Section s (_>>=_ (number 2) next) x
   pairThen {next = next} f =
-      guarded (ltb x (length s)) 1
-      (guarded {r = λ l. pick (ltb (x + 1) (length s)) (next (pairAt s x) (drop (x + 2) s)) (refused 1)} {x = x}
-      (ltb (x + 1) (length s)) 1 (f (pairAt s x)) refl (λ e h. inside-two s x e))
+      guarded (ltb x (length s)) endsEarly
+      (guarded {r = λ l. pick (ltb (x + 1) (length s)) (next (pairAt s x) (drop (x + 2) s)) (refused endsEarly)} {x = x}
+      (ltb (x + 1) (length s)) endsEarly (f (pairAt s x)) refl (λ e h. inside-two s x e))
       (then-pair s x next) (λ e h. h)
 
   -- a test

@@ -13,6 +13,7 @@ use Rattle.base.specs.Choice.{pick}
 use Rattle.meaning.specs.Reader.{Reading, read, refused, Reader, go-on, _>>=_, give, number}
 use Rattle.places.specs.Bytes.{pairAt}
 use Rattle.places.specs.Answer.{then-byte, go-on-pick, two}
+use Rattle.meaning.specs.Numbers.{endsEarly}
 
 -- the number of n bytes at a place, the low byte first
 unfoldable pub numberIn : List ℕ → ℕ → ℕ → ℕ
@@ -37,7 +38,7 @@ module _ (s : List ℕ) where
       second h = omega arith
 
   -- a number of n bytes, where there are so many
-  pub number-at : (n at : ℕ) → number n (drop at s) ≡ pick (leb n (length s - at)) (read (numberIn s at n) (drop (at + n) s)) (refused 1)
+  pub number-at : (n at : ℕ) → number n (drop at s) ≡ pick (leb n (length s - at)) (read (numberIn s at n) (drop (at + n) s)) (refused endsEarly)
   unfolding number numberIn give _>>=_ pick go-on
   number-at zero at = rw (leb·zero (length s - at), add-zero at)
   number-at (suc n) at =
@@ -47,9 +48,9 @@ module _ (s : List ℕ) where
       further = omega arith
 
       go : (a b : Bool) → pick a
-          (go-on (pick b (read (numberIn s (at + 1) n) (drop (at + 1 + n) s)) (refused 1)) (λ high. give (getD s at 0 + 256 * high)))
-          (refused 1)
-          ≡ pick (a && b) (read (getD s at 0 + 256 * numberIn s (at + 1) n) (drop (at + 1 + n) s)) (refused 1)
+          (go-on (pick b (read (numberIn s (at + 1) n) (drop (at + 1 + n) s)) (refused endsEarly)) (λ high. give (getD s at 0 + 256 * high)))
+          (refused endsEarly)
+          ≡ pick (a && b) (read (getD s at 0 + 256 * numberIn s (at + 1) n) (drop (at + 1 + n) s)) (refused endsEarly)
       go true true = refl
       go true false = refl
       go false b = refl
@@ -57,18 +58,18 @@ module _ (s : List ℕ) where
 module _ {B : Type 0} (s : List ℕ) where
   -- read on after a number
   pub then-number : (n at : ℕ) (next : ℕ → Reader B)
-      → _>>=_ (number n) next (drop at s) ≡ pick (leb n (length s - at)) (next (numberIn s at n) (drop (at + n) s)) (refused 1)
+      → _>>=_ (number n) next (drop at s) ≡ pick (leb n (length s - at)) (next (numberIn s at n) (drop (at + n) s)) (refused endsEarly)
   unfolding _>>=_ go-on pick
   then-number n at next = ap (λ (r : Reading ℕ). go-on r next) (number-at s n at) ∙ go (leb n (length s - at))
     where
-      go : (b : Bool) → go-on (pick b (read (numberIn s at n) (drop (at + n) s)) (refused 1)) next
-          ≡ pick b (next (numberIn s at n) (drop (at + n) s)) (refused 1)
+      go : (b : Bool) → go-on (pick b (read (numberIn s at n) (drop (at + n) s)) (refused endsEarly)) next
+          ≡ pick b (next (numberIn s at n) (drop (at + n) s)) (refused endsEarly)
       go true = refl
       go false = refl
 
 -- of two bytes, each of which is looked for
 pub then-pair : {B : Type 0} (s : List ℕ) (x : ℕ) (next : ℕ → Reader B)
-    → _>>=_ (number 2) next (drop x s) ≡ pick (ltb x (length s)) (pick (ltb (x + 1) (length s)) (next (pairAt s x) (drop (x + 2) s)) (refused 1)) (refused 1)
+    → _>>=_ (number 2) next (drop x s) ≡ pick (ltb x (length s)) (pick (ltb (x + 1) (length s)) (next (pairAt s x) (drop (x + 2) s)) (refused endsEarly)) (refused endsEarly)
 unfolding number pairAt _>>=_ give go-on
 then-pair s x next = simp (then-byte, go-on-pick, add-zero, two)
 

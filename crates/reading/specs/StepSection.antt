@@ -23,6 +23,7 @@ use Rattle.reading.specs.SheetPlaces.{stepAtPlace, afterStep, stepsAt}
 use Rattle.places.specs.Answer.{answer, answer-pick, passed, passed-not, then-byte, then-unless, pick-not, two}
 use Rattle.places.specs.Section.{Section, standsAs}
 use Rattle.places.specs.InTurn.{inTurn}
+use Rattle.meaning.specs.Numbers.{labelOutside, secondNear, axisUnknown, endsEarly, parentRule}
 
 -- ---- how steps are judged
 
@@ -35,7 +36,7 @@ climbs s p q (suc n) c =
 
 -- the last byte of a step, its label
 unfoldable pub stepLabel : List ℕ → ℕ → ℕ → Cur
-stepLabel s known x = pick (ltb x (length s)) (pick (leb (getD s x 0) known) (At (x + 1)) (No 8)) (No 1)
+stepLabel s known x = pick (ltb x (length s)) (pick (leb (getD s x 0) known) (At (x + 1)) (No labelOutside)) (No endsEarly)
 
 -- a second near step with parent 0, after the k steps from the place p on
 unfoldable pub isSecondNear : List ℕ → ℕ → ℕ → ℕ → ℕ → Bool
@@ -48,11 +49,11 @@ stepPlace s known p k x =
     (pick (climbs s p (getD s x 0) (k + 1) k)
     (pick (ltb (x + 1) (length s))
     (pick (leb (getD s (x + 1) 0) 1)
-    (pick (isSecondNear s p k (getD s x 0) (getD s (x + 1) 0)) (No 9) (stepLabel s known (x + 2)))
-    (No 7))
-    (No 1))
-    (No 6))
-    (No 1)
+    (pick (isSecondNear s p k (getD s x 0) (getD s (x + 1) 0)) (No secondNear) (stepLabel s known (x + 2)))
+    (No axisUnknown))
+    (No endsEarly))
+    (No parentRule))
+    (No endsEarly)
 
 -- ---- that is how they are read
 

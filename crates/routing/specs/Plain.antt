@@ -88,6 +88,6 @@ module _ (ns : List Node) {s : List ℕ} {v : Subscriptions} (stand : Subscripti
       (ap asked.Said (e ∙ ap (satisfies ns) (stand .taken i h .0)))
 
   -- there is none
-  pub answer-not-there : v .count ≤ i → asked.Refused 11 ≡ numberedAnswer ns (sheetAt s) i
+  pub answer-not-there : v .count ≤ i → asked.Refused notThere ≡ numberedAnswer ns (sheetAt s) i
   unfolding numberedAnswer isSubscription
   answer-not-there h = pick-false _ _ _ (ltb i (length (sheetAt s .patterns))) (le-ltb i _ (omega (arith, stand .counted))) refl
