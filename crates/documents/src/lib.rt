@@ -5,6 +5,7 @@ use labels::after_labels;
 use labels::labels;
 use labels::text_at;
 use meaning::COUNT_OUTSIDE;
+use meaning::DONE;
 use meaning::ENDS_EARLY;
 use meaning::LABEL_OUTSIDE;
 use meaning::MOST_LABELS;
@@ -149,7 +150,7 @@ pub fn document_number(s: &[u8], d: &[u8]) -> u8
     ensures { λ r. ⌜ r ≡ documentNumber (now (s .entry)) (now (d .entry)) ⌝ }
 {
     match sheet_and_document(s, d) {
-        Cur::At(x) => 0,
+        Cur::At(x) => DONE,
         Cur::No(m) => m,
     }
 }
@@ -181,7 +182,7 @@ pub fn label_number(s: &[u8], d: &[u8], n: u64) -> u8
             if (all as u64) < n {
                 return NOT_THERE;
             }
-            0
+            DONE
         }
         Cur::No(m) => m,
     }

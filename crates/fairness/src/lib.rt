@@ -1,6 +1,7 @@
 // The table check: whether a table is fair beside its sheet.
 use base::Cur;
 use covering::covers;
+use meaning::DONE;
 use meaning::MOST_ENTRIES;
 use meaning::NOT_FAIR;
 use members::is_member;
@@ -146,7 +147,7 @@ pub fn table_number(s: &[u8], t: &[u8]) -> u8
     ensures { λ r. ⌜ r ≡ tableNumber (now (s .entry)) (now (t .entry)) ⌝ }
 {
     match fair_table(s, t) {
-        Cur::At(x) => 0,
+        Cur::At(x) => DONE,
         Cur::No(m) => m,
     }
 }

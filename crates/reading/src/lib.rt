@@ -6,6 +6,7 @@ pub mod patterns; // patterns.rt: a pattern, a section of patterns
 use crate::patterns::patterns;
 use base::Cur;
 use labels::labels;
+use meaning::DONE;
 use meaning::ENDS_EARLY;
 use places::byte_at;
 use places::end;
@@ -35,7 +36,7 @@ pub fn sheet_number(s: &[u8]) -> u8
     ensures { λ r. ⌜ r ≡ sheetNumber (now (s .entry)) ⌝ }
 {
     match sheet(s) {
-        Cur::At(x) => 0,
+        Cur::At(x) => DONE,
         Cur::No(m) => m,
     }
 }
