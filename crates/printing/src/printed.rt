@@ -3,6 +3,7 @@ use crate::put_table;
 use answers::built::first_entries;
 use base::Cur;
 use building::build;
+use meaning::ENDS_EARLY;
 use places::pair_at;
 use reading::sheet;
 use subscriptions::subscriptions_in;
@@ -31,7 +32,7 @@ pub fn put_text(input: &[u8], out: &mut [u8]) -> usize
     ensures { λ r. ⌜ written (now (out .exit)) r ≡ put (written (now (out .entry)) 0) (printed (now (input .entry))) ⌝ }
 {
     if input.len() < 2 {
-        return put_refused(out, 1);
+        return put_refused(out, ENDS_EARLY as usize);
     }
     let limit = pair_at(input, 0);
     let s = &input[2..];

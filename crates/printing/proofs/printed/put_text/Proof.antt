@@ -28,7 +28,7 @@ returns-3 c =
 pub put-text-spec : {M : Type 1} → statement M
 put-text-spec =
     tie.close
-    (tie.spec (λ c κs. search needs) (λ c. search needs) returns (λ c κs. search needs) (λ c. search needs)
+    (tie.spec (λ c. search needs) (λ c κs. search needs) (λ c. search needs) returns (λ c κs. search needs) (λ c. search needs)
     (λ c. search needs) (λ c. search needs) (λ c κs. search needs) (λ c. search needs) (λ c. search needs)
     put-built-requires (λ c. search needs) (λ c. search needs) (λ c κs. search needs) (λ c. search needs) returns-2
     (λ c. search needs) returns-3)
