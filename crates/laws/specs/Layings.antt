@@ -183,7 +183,8 @@ module _ (a b : List Step) (rises-a : Rising (stepParents a)) (rises-b : Rising 
 
       lies : (k : ℕ) → k ≤ suc n → 1 ≤ k → LiesWell b (stepAt a k) (place (stepAt a k .parent)) (place k)
       lies =
-          up-to n (λ k. 1 ≤ k → LiesWell b (stepAt a k) (place (stepAt a k .parent)) (place k)) lies-before (λ o. rw (before p p-before, at-next) (new .1 .lies))
+          up-to n (λ k. 1 ≤ k → LiesWell b (stepAt a k) (place (stepAt a k .parent)) (place k))
+          lies-before (λ o. rw (before p p-before, at-next) (new .1 .lies))
 
       laid : (k : ℕ) → k ≤ suc n → lays (childrenOf a k) (childrenOf b (place k)) ≡ true
       laid = up-to n (λ k. lays (childrenOf a k) (childrenOf b (place k)) ≡ true) (λ k h. rw (before k h) (g .laid k h)) (rw at-next (new .1 .laid))

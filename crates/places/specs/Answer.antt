@@ -133,7 +133,8 @@ module _ {A B : Type 0} where
 
 module _ {B : Type 0} (s : List ℕ) where
   -- a byte, where there is one
-  pub then-byte : (at : ℕ) (next : ℕ → Reader B) → _>>=_ byte next (drop at s) ≡ pick (ltb at (length s)) (next (getD s at 0) (drop (at + 1) s)) (refused endsEarly)
+  pub then-byte : (at : ℕ) (next : ℕ → Reader B)
+      → _>>=_ byte next (drop at s) ≡ pick (ltb at (length s)) (next (getD s at 0) (drop (at + 1) s)) (refused endsEarly)
   unfolding _>>=_ byte go-on pick
   then-byte at next = go (ltb at (length s)) refl
     where

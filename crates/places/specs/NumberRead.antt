@@ -69,7 +69,8 @@ module _ {B : Type 0} (s : List ℕ) where
 
 -- of two bytes, each of which is looked for
 pub then-pair : {B : Type 0} (s : List ℕ) (x : ℕ) (next : ℕ → Reader B)
-    → _>>=_ (number 2) next (drop x s) ≡ pick (ltb x (length s)) (pick (ltb (x + 1) (length s)) (next (pairAt s x) (drop (x + 2) s)) (refused endsEarly)) (refused endsEarly)
+    → _>>=_ (number 2) next (drop x s)
+    ≡ pick (ltb x (length s)) (pick (ltb (x + 1) (length s)) (next (pairAt s x) (drop (x + 2) s)) (refused endsEarly)) (refused endsEarly)
 unfolding number pairAt _>>=_ give go-on
 then-pair s x next = simp (then-byte, go-on-pick, add-zero, two)
 

@@ -12,7 +12,8 @@ use Rattle.subscriptions.proofs.pattern_places.Tie as tie
 use Rattle.meaning.specs.Numbers.{mostPatterns}
 
 abbrev Inv-loop : tie.InvT-loop
-Inv-loop s p places₀ i₀ x₀ places i x = (length places ≡ mostPatterns) × (i ≤ mostPatterns) × (x ≤ p + 766 * i) × FilledUpTo itself (afterPattern s) p places i x
+Inv-loop s p places₀ i₀ x₀ places i x =
+    (length places ≡ mostPatterns) × (i ≤ mostPatterns) × (x ≤ p + 766 * i) × FilledUpTo itself (afterPattern s) p places i x
 
 abbrev μ-loop : tie.MeasureT-loop
 μ-loop s p places₀ i₀ x₀ places i x = mostPatterns - i
