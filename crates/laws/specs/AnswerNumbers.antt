@@ -12,9 +12,9 @@ use Rattle.base.specs.Choice.{pick}
 use Rattle.meaning.specs.Numbers.{done, noRoom, notThere}
 use Rattle.meaning.specs.Reader.{Reading, read, refused, Went, numberOf}
 use Rattle.meaning.specs.Sections.{Sheet, sheet, Document, document, Entry}
-use Rattle.meaning.specs.Routing.{plainRoute, tableRoute, tried}
+use Rattle.meaning.specs.Routing.{plainRoute}
 use Rattle.meaning.specs.LabelBytes.{labelsOf, isLabel, labelAt}
-use Rattle.meaning.specs.Calls.{judged, fairTable, Writing, refuses, writes, withRoom, after, mergeWriting, mergeAnswer, buildWriting, buildAnswer}
+use Rattle.meaning.specs.Calls.{judged, fairTable, threeJudged, Writing, refuses, writes, withRoom, after, mergeWriting, mergeAnswer, buildWriting, buildAnswer}
 use Rattle.meaning.specs.Calls.{plainAnswer, tableAnswer, matchesAnswer, coversAnswer, sheetNumber, documentNumber, tableNumber, labelNumber}
 use Rattle.meaning.specs.Calls.{labelPart}
 use Rattle.meaning.specs.Given.{Given, refusal, gives, byNumber, ToldByNumber, askedGiven, MergeValues, mergedGiven}
@@ -95,13 +95,20 @@ tabled-refused : (n : ℕ) → 1 ≤ n → ToldByNumber (tabledGiven (tabled.Ref
 unfolding tabledGiven
 tabled-refused n = refusal-told n _
 
+-- after sheet, table and document
+module _ {E A : Type 0} (given : E → Given A) (refuse : ℕ → E) (told : (n : ℕ) → 1 ≤ n → ToldByNumber (given (refuse n))) where
+  three-told : (says : Sheet → List Entry → Document → E) → ((sh : Sheet) (es : List Entry) (dc : Document) → ToldByNumber (given (says sh es dc)))
+      → (s t d : List ℕ) → ToldByNumber (given (threeJudged refuse says s t d))
+  unfolding threeJudged
+  three-told says later s t d =
+      judged-told given refuse told (sheet s) _ (sheet-numbered .not-zero s) λ sh.
+      judged-told given refuse told (fairTable sh t) _ (fair-table-numbered sh .not-zero t) λ es.
+      judged-told given refuse told (document sh d) _ (document-numbered sh .not-zero d) λ dc.
+      later sh es dc
+
 pub table-route-told : (s t d : List ℕ) → ToldByNumber (tabledGiven (tableAnswer s t d))
-unfolding tableAnswer tabledGiven
-table-route-told s t d =
-    judged-told tabledGiven tabled.Refused tabled-refused (sheet s) _ (sheet-numbered .not-zero s) λ sh.
-    judged-told tabledGiven tabled.Refused tabled-refused (fairTable sh t) _ (fair-table-numbered sh .not-zero t) λ es.
-    judged-told tabledGiven tabled.Refused tabled-refused (document sh d) _ (document-numbered sh .not-zero d) λ dc.
-    gives-told _
+unfolding tableAnswer threeJudged tabledGiven
+table-route-told = three-told tabledGiven tabled.Refused tabled-refused _ λ sh es dc. gives-told _
 
 -- ---- the same of what is written
 
@@ -232,30 +239,32 @@ plain-route-number s d = by-sheet (sheet s)
     by-sheet (read sh left) = by-document sh (document sh d)
     by-sheet (refused n) = refl
 
--- of the route by a table: sheet, table, document
+-- where sheet, table and document are judged, the first fault of the table's number, beside the sheet, and the document's
+module _ {E A : Type 0} (given : E → Given A) (refuse : ℕ → E) (number : (n : ℕ) → given (refuse n) .number ≡ n)
+    (says : Sheet → List Entry → Document → E) (zero′ : (sh : Sheet) (es : List Entry) (dc : Document) → given (says sh es dc) .number ≡ 0)
+    (s t d : List ℕ) where
+  three-number : given (threeJudged refuse says s t d) .number ≡ firstFault (tableNumber s t) (documentNumber s d)
+  unfolding threeJudged tableNumber documentNumber judged numberOf NotZero firstFault pick
+  three-number = by-sheet (sheet s)
+    where
+      by-document : (sh : Sheet) (es : List Entry) (m : Reading Document) → given (judged m refuse (says sh es)) .number ≡ numberOf m
+      by-document sh es (read dc left) = zero′ sh es dc
+      by-document sh es (refused n) = number n
+
+      by-table : (sh : Sheet) (m : Reading (List Entry)) → NotZero m
+          → given (judged m refuse (λ es. judged (document sh d) refuse (says sh es))) .number ≡ firstFault (numberOf m) (numberOf (document sh d))
+      by-table sh (read es left) h = by-document sh es (document sh d)
+      by-table sh (refused n) h = number n ∙ earlier-fault n (numberOf (document sh d)) h
+
+      by-sheet : (m : Reading Sheet)
+          → given (judged m refuse (λ sh. judged (fairTable sh t) refuse (λ es. judged (document sh d) refuse (says sh es)))) .number
+          ≡ firstFault (judged m (λ n. n) (λ sh. numberOf (fairTable sh t))) (judged m (λ n. n) (λ sh. numberOf (document sh d)))
+      by-sheet (read sh left) = by-table sh (fairTable sh t) (fair-table-numbered sh .not-zero t)
+      by-sheet (refused n) = number n ∙ same-fault n
+
 pub table-route-number : (s t d : List ℕ) → tabledGiven (tableAnswer s t d) .number ≡ firstFault (tableNumber s t) (documentNumber s d)
-unfolding tableAnswer tableNumber documentNumber judged tabledGiven refusal gives numberOf NotZero firstFault pick
-table-route-number s t d = by-sheet (sheet s)
-  where
-    route : Sheet → List Entry → Document → Tabled
-    route sh es dc = tabled.Delivered (tableRoute (dc .nodes) es (sh .patterns)) (tried (dc .nodes) es (sh .patterns))
-
-    by-document : (sh : Sheet) (es : List Entry) (m : Reading Document) → tabledGiven (judged m tabled.Refused (route sh es)) .number ≡ numberOf m
-    by-document sh es (read dc left) = refl
-    by-document sh es (refused n) = refl
-
-    by-table : (sh : Sheet) (m : Reading (List Entry)) → NotZero m
-        → tabledGiven (judged m tabled.Refused (λ es. judged (document sh d) tabled.Refused (route sh es))) .number
-        ≡ firstFault (numberOf m) (numberOf (document sh d))
-    by-table sh (read es left) h = by-document sh es (document sh d)
-    by-table sh (refused n) h = earlier-fault n (numberOf (document sh d)) h
-
-    by-sheet : (m : Reading Sheet)
-        → tabledGiven (judged m tabled.Refused
-        (λ sh. judged (fairTable sh t) tabled.Refused (λ es. judged (document sh d) tabled.Refused (route sh es)))) .number
-        ≡ firstFault (judged m (λ n. n) (λ sh. numberOf (fairTable sh t))) (judged m (λ n. n) (λ sh. numberOf (document sh d)))
-    by-sheet (read sh left) = by-table sh (fairTable sh t) (fair-table-numbered sh .not-zero t)
-    by-sheet (refused n) = same-fault n
+unfolding tableAnswer threeJudged tabledGiven refusal gives
+table-route-number = three-number tabledGiven tabled.Refused (λ n. refl) _ (λ sh es dc. refl)
 
 -- ---- a refused call gives zeros or an empty part, and leaves a lent output as found
 

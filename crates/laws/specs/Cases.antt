@@ -23,7 +23,7 @@ use Rattle.meaning.specs.Routing.{deliverySet, plainRoute, membersOf, matchesFo
 use Rattle.meaning.specs.LabelBytes.{labelAt}
 use Rattle.meaning.specs.Written.{stepBytes, patternBytes, numberBytes, entryBytes, tableBytes}
 use Rattle.meaning.specs.Calls.{judged, fairTable, isSubscription, subscription, matchesAnswer, coversAnswer}
-use Rattle.meaning.specs.Calls.{Writing, writes, mergeWriting, buildWriting, plainAnswer, tableAnswer}
+use Rattle.meaning.specs.Calls.{threeJudged, Writing, writes, mergeWriting, buildWriting, plainAnswer, tableAnswer}
 use Rattle.meaning.specs.Printing.{ascii, decimalIn, decimal, axisText, labelText, several, inBrackets, branchesText}
 use Rattle.meaning.specs.Printing.{patternText, commaText, totalsText, entryText, tableText, asking, printed}
 use Rattle.meaning.specs.declared.Asked.{Asked}
@@ -125,7 +125,7 @@ caseExpected =
 -- the one claim
 pub rose-bench : caseAnswers ≡ caseExpected
 unfolding
-    caseAnswers caseExpected ofR sheetR documentD1 documentSony tableR3 tableR2 tableR0 mergeR01 slash slashes a b c star ascii flatMap pick some every keep total without numbersFrom go-on _>>=_ _>>_ give repeat unless byte bytes number end numberOf axisOf axisNumber isNear size childrenIn forest stepsFrom stepsOf parentIn isChild isBelowIn isBelow reaches sameLabel label labels upFrom pathAfter mayHang isNearRoot nearRoot aStep steps pattern sheet nodeParent aNode nodes document entry table anyOrSame parentsOf labelIn fitsBelow holdBelow satisfies mayLie finds fitsAt lays covers alone joined branchSize laidOn staysBeside nothing offer commonLabel bodyOf meet meetAt across through mergeWithin merge noEntry entryAt entrySteps stepsTogether entriesFrom pair coversOther ascends pairsOf pairsBelow joinAt covering settleAt settleTimes settle saves better bestOf bestPair cut largest cutLargest mergeOrCut round roundsFrom build isMember hasMember entriesOf oneThatCovers eachInOne isPeopled isWithin fair deliverySet plainRoute membersOf matchesFor deliveredFrom tableRoute triedFor tried stepBytes patternBytes numberBytes entryBytes tableBytes judged fairTable isSubscription subscription matchesAnswer coversAnswer mergeWriting buildWriting plainAnswer tableAnswer
+    caseAnswers caseExpected ofR sheetR documentD1 documentSony tableR3 tableR2 tableR0 mergeR01 slash slashes a b c star ascii flatMap pick some every keep total without numbersFrom go-on _>>=_ _>>_ give repeat unless byte bytes number end numberOf axisOf axisNumber isNear size childrenIn forest stepsFrom stepsOf parentIn isChild isBelowIn isBelow reaches sameLabel label labels upFrom pathAfter mayHang isNearRoot nearRoot aStep steps pattern sheet nodeParent aNode nodes document entry table anyOrSame parentsOf labelIn fitsBelow holdBelow satisfies mayLie finds fitsAt lays covers alone joined branchSize laidOn staysBeside nothing offer commonLabel bodyOf meet meetAt across through mergeWithin merge noEntry entryAt entrySteps stepsTogether entriesFrom pair coversOther ascends pairsOf pairsBelow joinAt covering settleAt settleTimes settle saves better bestOf bestPair cut largest cutLargest mergeOrCut round roundsFrom build isMember hasMember entriesOf oneThatCovers eachInOne isPeopled isWithin fair deliverySet plainRoute membersOf matchesFor deliveredFrom tableRoute triedFor tried stepBytes patternBytes numberBytes entryBytes tableBytes judged fairTable threeJudged isSubscription subscription matchesAnswer coversAnswer mergeWriting buildWriting plainAnswer tableAnswer
 rose-bench = refl
 
 -- what the program prints for R at limit 2, exactly

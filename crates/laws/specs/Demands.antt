@@ -23,7 +23,7 @@ use Rattle.meaning.specs.Routing.{plainRoute, tableRoute, tried}
 use Rattle.meaning.specs.LabelBytes.{labelsOf, isLabel, labelAt}
 use Rattle.meaning.specs.ByBytes.{Satisfied}
 use Rattle.meaning.specs.Written.{patternBytes, sheetBytes, tableBytes}
-use Rattle.meaning.specs.Calls.{judged, fairTable, isSubscription, subscription, sheetNumber, documentNumber, tableNumber}
+use Rattle.meaning.specs.Calls.{judged, fairTable, threeJudged, isSubscription, subscription, sheetNumber, documentNumber, tableNumber}
 use Rattle.meaning.specs.Calls.{matchesAnswer, coversAnswer, writes, withRoom, after, mergeWriting, mergeAnswer}
 use Rattle.meaning.specs.Calls.{buildWriting, buildAnswer, plainAnswer, tableAnswer, labelNumber, labelPart}
 use Rattle.meaning.specs.Printing.{asking}
@@ -291,7 +291,7 @@ pub record SameRoute (s t d : List ℕ) (sh : Sheet) (es : List Entry) (dc : Doc
 -- contract of the route in code, which asks by the try alone, and `tried` counts it
 pub routing : (s t d : List ℕ) → sheetNumber s ≡ 0 → tableNumber s t ≡ 0 → documentNumber s d ≡ 0
     → (sh : Went (sheet s)) × (es : Went (fairTable (sh .value) t)) × (dc : Went (document (sh .value) d)) × SameRoute s t d (sh .value) (es .value) (dc .value)
-unfolding plainAnswer tableAnswer judged
+unfolding plainAnswer tableAnswer threeJudged judged
 routing s t d sheet-sound table-sound document-sound =
     let sh = sheet-of-0 s sheet-sound in
     let es = table-of-0 s (sh .left) (sh .value) (sh .reads) t table-sound in

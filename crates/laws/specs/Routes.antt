@@ -1,10 +1,11 @@
 -- The table route is the plain route, for any fair table and any document; a table that passes the check is fair; and what is
 -- delivered, bit by bit.
-use Prim.Native.Nat.{ℕ, suc}
+use Prim.Native.Nat.{ℕ, zero, suc, _+_, _<_}
 use mathlib.Core.Path.{_≡_, refl, sym, _∙_, ap, ap₂}
 use mathlib.Core.Logic.{_⊎_, inl, inr, _↔_}
 use mathlib.Core.Bool.{Bool, true, false, _&&_, false≢true}
 use native.Mathlib.Omega.{arith}
+use native.Mathlib.Nat.{add-zero, zero-add}
 use borrow.Author.Tests.{ltb-true, ltb-false}
 use lib.Dec.{ltb}
 use lib.ListN.{length, getD, length-map, List·getD-eq-default}
@@ -61,6 +62,30 @@ module _ (ns : List Node) (es : List Entry) (up : Rising (parentsOf ns)) where
 pub table-is-plain : (ns : List Node) (ps : List Forest) (es : List Entry) → Rising (parentsOf ns) → fair ps es ≡ true → tableRoute ns es ps ≡ plainRoute ns ps
 unfolding tableRoute plainRoute
 table-is-plain ns ps es up h = ap deliverySet (same-answers ns es up 0 ps (fair-gives ps es h .each))
+
+-- ---- the answers of the table route
+
+module _ (ns : List Node) (es : List Entry) where
+  -- as many as subscriptions
+  pub delivered-long : (i : ℕ) (qs : List Forest) → length (deliveredFrom ns es i qs) ≡ length qs
+  unfolding deliveredFrom
+  delivered-long i [] = refl
+  delivered-long i (q ∷ qs) = ap suc (delivered-long (suc i) qs)
+
+  -- that of subscription i + j, from number i on
+  delivered-from : (i j : ℕ) (qs : List Forest) → j < length qs
+      → getD (deliveredFrom ns es i qs) j false ≡ (some (matchesFor ns (i + j)) es && satisfies ns (getD qs j none))
+  unfolding deliveredFrom
+  delivered-from i j [] h = absurd (omega arith)
+  delivered-from i zero (q ∷ qs) h = rw (add-zero i)
+  delivered-from i (suc j) (q ∷ qs) h =
+      let n : suc i + j ≡ i + suc j = omega arith in
+      rw n at (delivered-from (suc i) j qs (omega arith))
+
+  -- that of subscription j
+  pub delivered-at : (ps : List Forest) (j : ℕ) → j < length ps
+      → getD (deliveredFrom ns es 0 ps) j false ≡ (some (matchesFor ns j) es && satisfies ns (getD ps j none))
+  delivered-at ps j h = rw (zero-add j) at (delivered-from 0 j ps h)
 
 -- ---- on bytes
 

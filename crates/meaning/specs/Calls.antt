@@ -9,7 +9,7 @@ use Rattle.base.specs.Choice.{pick}
 use Rattle.meaning.specs.Numbers.{done, noRoom, notThere, notFair}
 use Rattle.meaning.specs.Reader.{Reading, read, refused, Reader, _>>=_, _>>_, give, unless, numberOf}
 use Rattle.meaning.specs.Forest.{Forest, none}
-use Rattle.meaning.specs.Sections.{Sheet, sheet, document, Entry, table}
+use Rattle.meaning.specs.Sections.{Sheet, sheet, Document, document, Entry, table}
 use Rattle.meaning.specs.Satisfying.{satisfies}
 use Rattle.meaning.specs.Covering.{covers}
 use Rattle.meaning.specs.Merging.{Merge, merge}
@@ -43,6 +43,14 @@ fairTable sh = do
   es ← table sh
   unless notFair (fair (sh .patterns) es)
   give es
+
+-- sheet, table and document are judged in this order: a refusal, or what follows from the three
+unfoldable pub threeJudged : {B : Type 0} → (ℕ → B) → (Sheet → List Entry → Document → B) → List ℕ → List ℕ → List ℕ → B
+threeJudged refuse next s t d =
+    judged (sheet s) refuse (λ sh.
+    judged (fairTable sh t) refuse (λ es.
+    judged (document sh d) refuse (λ dc.
+    next sh es dc)))
 
 -- a subscription by its number, from 0
 unfoldable pub isSubscription : Sheet → ℕ → Bool
@@ -126,11 +134,9 @@ plainAnswer s d =
     routed.Delivered (plainRoute (dc .nodes) (sh .patterns))))
 
 unfoldable pub tableAnswer : List ℕ → List ℕ → List ℕ → Tabled
-tableAnswer s t d =
-    judged (sheet s) tabled.Refused (λ sh.
-    judged (fairTable sh t) tabled.Refused (λ es.
-    judged (document sh d) tabled.Refused (λ dc.
-    tabled.Delivered (tableRoute (dc .nodes) es (sh .patterns)) (tried (dc .nodes) es (sh .patterns)))))
+tableAnswer =
+    threeJudged tabled.Refused (λ sh es dc.
+    tabled.Delivered (tableRoute (dc .nodes) es (sh .patterns)) (tried (dc .nodes) es (sh .patterns)))
 
 -- ---- label bytes: the number, and the part, which is empty on a refusal
 

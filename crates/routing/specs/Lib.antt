@@ -1,4 +1,5 @@
 pub mod Plain
+pub mod ThreeJudged
 pub mod Tabling
 pub mod TableSet
 pub mod RouteAnswers

@@ -3,9 +3,9 @@ use Prim.Native.Nat.{ℕ, _+_}
 use mathlib.Core.Path.{_≡_, sym, ap, _∙_}
 use mathlib.Core.List.{List}
 use Rattle.base.specs.declared.Cur.the-variants.{At, No}
-use Rattle.meaning.specs.Sections.{Sheet, Document, document, Node, Entry}
+use Rattle.meaning.specs.Sections.{Sheet, Document, Node, Entry}
 use Rattle.meaning.specs.Routing.{plainRoute, tableRoute, tried}
-use Rattle.meaning.specs.Calls.{judged, matchesAnswer, plainAnswer, tableAnswer}
+use Rattle.meaning.specs.Calls.{matchesAnswer, plainAnswer, tableAnswer}
 use Rattle.meaning.specs.declared.Asked.{Asked}
 use Rattle.meaning.specs.declared.Asked.the-variants as asked
 use Rattle.meaning.specs.declared.Routed.{Routed}
@@ -15,11 +15,11 @@ use Rattle.meaning.specs.declared.Tabled.the-variants as tabled
 use Rattle.shapes.specs.Shapes.{nodesAt}
 use Rattle.places.specs.Bytes.{pairAt}
 use Rattle.reading.specs.SheetPlaces.{sheetAt}
-use Rattle.documents.specs.DocumentSection.{documentPlace, nodeCountAt, documentAt}
-use Rattle.fairness.specs.FairJudged.{fairPlace, fair-judged}
+use Rattle.documents.specs.DocumentSection.{nodeCountAt, documentAt}
 use Rattle.places.specs.Reached.{reached}
-use Rattle.routing.specs.declared.Route.{Route}
-use Rattle.documents.specs.DocumentJudged.{both-judged, document-judged, sheetDocumentPlace}
+use Rattle.routing.specs.declared.by_table.Route.{Route}
+use Rattle.documents.specs.DocumentJudged.{both-judged, sheetDocumentPlace}
+use Rattle.routing.specs.ThreeJudged.{threePlace, three-judged}
 use Rattle.routing.specs.Plain.{numberedAnswer}
 use Rattle.routing.specs.Tabling.{routeBy, route-tried}
 use Rattle.routing.specs.TableSet.{route-set}
@@ -81,31 +81,22 @@ module _ (s t d : List ℕ) where
   abbrev tableSays : Sheet → List Entry → Document → Tabled
   tableSays sh es dc = tabled.Delivered (tableRoute (dc .nodes) es (sh .patterns)) (tried (dc .nodes) es (sh .patterns))
 
-  -- by the places that were reached, the document last
-  table-by-place : tableAnswer s t d ≡ reached (fairPlace s t) tabled.Refused
-      (reached (documentPlace s d) tabled.Refused (tableSays (sheetAt s) (tableAt t) (documentAt d)))
+  -- by the place that was reached
+  table-by-place : tableAnswer s t d ≡ reached (threePlace s t d) tabled.Refused (tableSays (sheetAt s) (tableAt t) (documentAt d))
   unfolding tableAnswer
-  table-by-place =
-      fair-judged s t tabled.Refused (λ sh es. judged (document sh d) tabled.Refused (tableSays sh es))
-      ∙ ap (reached (fairPlace s t) tabled.Refused) (document-judged s d tabled.Refused (tableSays (sheetAt s) (tableAt t)))
+  table-by-place = three-judged s t d tabled.Refused tableSays
 
-  -- the sheet or the table is refused
-  pub table-refused : {m : ℕ} → fairPlace s t ≡ No m → tabled.Refused m ≡ tableAnswer s t d
+  -- a refusal
+  pub table-refused : {m : ℕ} → threePlace s t d ≡ No m → tabled.Refused m ≡ tableAnswer s t d
   unfolding reached
   table-refused h = sym (table-by-place ∙ rw h)
 
-  module _ {y : ℕ} (h : fairPlace s t ≡ At y) where
-    -- the document is refused
-    pub document-refused : {m : ℕ} → documentPlace s d ≡ No m → tabled.Refused m ≡ tableAnswer s t d
-    unfolding reached
-    document-refused g = sym (table-by-place ∙ rw (h, g))
-
-    -- the route by the table is delivered
-    pub table-delivered : {z at n : ℕ} {r : Route} → documentPlace s d ≡ At z → at ≡ nodeCountAt d + 2 → n ≡ pairAt d (nodeCountAt d)
-        → r ≡ routeBy (nodesAt d at n) (sheetAt s .patterns) (tableAt t) → tabled.Delivered (r .set) (r .tried) ≡ tableAnswer s t d
-    unfolding reached documentAt
-    table-delivered {z} {at} {n} {r} g a b q =
-        let ns = nodesAt d at n in
-        let set : r .set ≡ tableRoute ns (tableAt t) (sheetAt s .patterns) = ap (λ (u : Route). u .set) q ∙ route-set ns (sheetAt s .patterns) (tableAt t) in
-        let count : r .tried ≡ tried ns (tableAt t) (sheetAt s .patterns) = ap (λ (u : Route). u .tried) q ∙ route-tried ns (sheetAt s .patterns) (tableAt t) in
-        sym (table-by-place ∙ rw (h, g, ← a, ← b, ← set, ← count))
+  -- the route by the table is delivered
+  pub table-delivered : {y at n : ℕ} {r : Route} → threePlace s t d ≡ At y → at ≡ nodeCountAt d + 2 → n ≡ pairAt d (nodeCountAt d)
+      → r ≡ routeBy (nodesAt d at n) (sheetAt s .patterns) (tableAt t) → tabled.Delivered (r .set) (r .tried) ≡ tableAnswer s t d
+  unfolding reached documentAt
+  table-delivered {y} {at} {n} {r} h a b q =
+      let ns = nodesAt d at n in
+      let set : r .set ≡ tableRoute ns (tableAt t) (sheetAt s .patterns) = ap (λ (u : Route). u .set) q ∙ route-set ns (sheetAt s .patterns) (tableAt t) in
+      let count : r .tried ≡ tried ns (tableAt t) (sheetAt s .patterns) = ap (λ (u : Route). u .tried) q ∙ route-tried ns (sheetAt s .patterns) (tableAt t) in
+      sym (table-by-place ∙ rw (h, ← a, ← b, ← set, ← count))

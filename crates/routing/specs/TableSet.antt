@@ -21,7 +21,8 @@ use Rattle.meaning.specs.Satisfying.{satisfies}
 use Rattle.meaning.specs.Fair.{isMember, hasMember}
 use Rattle.meaning.specs.Routing.{matchesFor, deliveredFrom, tableRoute}
 use Rattle.laws.specs.MemberBits.{member-none, member-delivery, delivery-lt}
-use Rattle.routing.specs.declared.Route.{Route}
+use Rattle.laws.specs.Routes.{delivered-long, delivered-at}
+use Rattle.routing.specs.declared.by_table.Route.{Route}
 use Rattle.members.specs.Marks.{marked, member-marked, marked-lt, same-members}
 use Rattle.routing.specs.Tabling.{start, oneMore, memberTried, askMember, askMembers, askEntry, routeBy}
 
@@ -147,23 +148,6 @@ module _ (ns : List Node) (ps : List Forest) where
 
 -- ---- the table route
 
-module _ (ns : List Node) (es : List Entry) where
-  -- as many answers as subscriptions
-  delivered-long : (i : ℕ) (qs : List Forest) → length (deliveredFrom ns es i qs) ≡ length qs
-  unfolding deliveredFrom
-  delivered-long i [] = refl
-  delivered-long i (q ∷ qs) = ap suc (delivered-long (suc i) qs)
-
-  -- the answer of subscription i + j
-  delivered-at : (i j : ℕ) (qs : List Forest) → j < length qs
-      → getD (deliveredFrom ns es i qs) j false ≡ (some (matchesFor ns (i + j)) es && satisfies ns (getD qs j none))
-  unfolding deliveredFrom
-  delivered-at i j [] h = absurd (omega arith)
-  delivered-at i zero (q ∷ qs) h = rw (add-zero i)
-  delivered-at i (suc j) (q ∷ qs) h =
-      let n : suc i + j ≡ i + suc j = omega arith in
-      rw n at (delivered-at (suc i) j qs (omega arith))
-
 -- the set that is marked is the table route
 pub route-set : (ns : List Node) (ps : List Forest) (es : List Entry) → (routeBy ns ps es) .set ≡ tableRoute ns es ps
 unfolding routeBy tableRoute start
@@ -174,4 +158,4 @@ route-set ns ps es =
     (λ j h.
     along-set ns ps es j start h
     ∙ ap (λ (b : Bool). b || (some (matchesFor ns j) es && satisfies ns (getD ps j none))) (member-none j)
-    ∙ sym (member-delivery said j ∙ delivered-at ns es 0 j ps h ∙ rw (zero-add j)))
+    ∙ sym (member-delivery said j ∙ delivered-at ns es ps j h))

@@ -18,8 +18,9 @@ use Rattle.meaning.specs.Building.{noEntry}
 use Rattle.meaning.specs.Satisfying.{satisfies}
 use Rattle.meaning.specs.Fair.{isMember}
 use Rattle.meaning.specs.Routing.{membersOf, triedFor, tried}
-use Rattle.routing.specs.declared.Route.{Route}
+use Rattle.routing.specs.declared.by_table.Route.{Route}
 use Rattle.members.specs.Marks.{marked}
+use Rattle.matching.specs.declared.Tried.{Tried}
 
 -- nothing is tried yet
 unfoldable pub start : Route
@@ -33,17 +34,35 @@ oneMore r = record { set = r .set; tried = r .tried + 1 }
 unfoldable pub memberTried : ℕ → ℕ → Bool → Route → Route
 memberTried members i said r = pick (isMember members i) (record { set = marked (r .set) i said; tried = r .tried + 1 }) r
 
--- as a member is asked
-pub member-asked : (members i : ℕ) (r : Route) {said b yes′ : Bool} {set n : ℕ} → b ≡ isMember members i → b ≡ true
-    → yes′ ≡ said → set ≡ marked (r .set) i yes′ → n ≡ r .tried + 1
-    → _≡_ {A = Route} (record { set = set; tried = n }) (memberTried members i said r)
-unfolding memberTried
-member-asked members i r e h f g k = pick-true _ _ _ (isMember members i) (sym e ∙ h) (rw (g, f, k))
+-- the same of a try alone: does it match, and how many were tried with it
+unfoldable pub memberTry : ℕ → ℕ → Bool → ℕ → Tried
+memberTry members i said n = pick (isMember members i) (record { yes = said; tried = n + 1 }) (record { yes = false; tried = n })
 
--- as another is left
-pub member-left : (members i : ℕ) (said : Bool) {r : Route} {b : Bool} → b ≡ isMember members i → b ≡ false → r ≡ memberTried members i said r
-unfolding memberTried
-member-left members i said e h = pick-false _ _ _ (isMember members i) (sym e ∙ h) refl
+module _ (members i : ℕ) (said : Bool) where
+  -- a member is tried
+  pub member-tried : (n : ℕ) {b : Bool} {q : Tried} → b ≡ isMember members i → b ≡ true → (q .yes ≡ said) × (q .tried ≡ n + 1) → q ≡ memberTry members i said n
+  unfolding memberTry
+  member-tried n e h f = pick-true _ _ _ (isMember members i) (sym e ∙ h) (λ j. record { yes = f .0 j; tried = f .1 j })
+
+  -- another is not
+  pub member-not-tried : {n : ℕ} {b : Bool} → b ≡ isMember members i → b ≡ false
+      → _≡_ {A = Tried} (record { yes = false; tried = n }) (memberTry members i said n)
+  unfolding memberTry
+  member-not-tried e h = pick-false _ _ _ (isMember members i) (sym e ∙ h) refl
+
+  -- what is tried is marked
+  pub member-marked : {q : Tried} {set : ℕ} (r : Route) → q ≡ memberTry members i said (r .tried) → set ≡ marked (r .set) i (q .yes)
+      → _≡_ {A = Route} (record { set = set; tried = q .tried }) (memberTried members i said r)
+  unfolding memberTry memberTried marked pick
+  member-marked r h k = rw (k, h) (go (isMember members i))
+    where
+      try : Bool → Tried
+      try b = pick b (record { yes = said; tried = r .tried + 1 }) (record { yes = false; tried = r .tried })
+
+      go : (b : Bool) → _≡_ {A = Route} (record { set = marked (r .set) i (try b .yes); tried = try b .tried })
+          (pick b (record { set = marked (r .set) i said; tried = r .tried + 1 }) r)
+      go true = refl
+      go false = refl
 
 -- at most one more
 member-tried-few : (members i : ℕ) (said : Bool) (r q : Route) → q ≡ memberTried members i said r → q .tried ≤ r .tried + 1

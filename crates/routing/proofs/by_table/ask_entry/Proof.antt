@@ -1,9 +1,9 @@
--- `routing::ask_entry` meets its contract: the members follow where the entry matches.
+-- `routing::by_table::ask_entry` meets its contract: the members follow where the entry matches.
 use native.Mathlib.Omega.{arith}
 use Rattle.shapes.specs.Shapes.{entryOf}
 use Rattle.routing.specs.Tabling.{entry-matches, entry-fails}
-use Rattle.routing.proofs.ask_entry.Statement.{statement}
-use Rattle.routing.proofs.ask_entry.Tie as tie
+use Rattle.routing.proofs.by_table.ask_entry.Statement.{statement}
+use Rattle.routing.proofs.by_table.ask_entry.Tie as tie
 
 try-pattern-requires : tie.Need-try-pattern-requires
 try-pattern-requires c κs =

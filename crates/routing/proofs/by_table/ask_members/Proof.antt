@@ -1,4 +1,4 @@
--- `routing::ask_members` meets its contract: what is left from subscription i on gives what all give.
+-- `routing::by_table::ask_members` meets its contract: what is left from subscription i on gives what all give.
 use Prim.Native.Nat.{_-_}
 use mathlib.Core.Path.{ap}
 use native.Mathlib.Omega.{arith}
@@ -6,8 +6,8 @@ use Rattle.meaning.specs.Satisfying.{satisfies}
 use Rattle.shapes.specs.Shapes.{nodesAt}
 use Rattle.reading.specs.SheetPlaces.{sheetAt}
 use Rattle.routing.specs.Tabling.{TryingMembers, members-start, members-go-on, members-end}
-use Rattle.routing.proofs.ask_members.Statement.{statement}
-use Rattle.routing.proofs.ask_members.Tie as tie
+use Rattle.routing.proofs.by_table.ask_members.Statement.{statement}
+use Rattle.routing.proofs.by_table.ask_members.Tie as tie
 
 abbrev Inv-loop : tie.InvT-loop
 Inv-loop s d at n members subscriptions so-far₀ i₀ so-far i = TryingMembers (nodesAt d at n) (sheetAt s .patterns) members so-far₀ i so-far

@@ -1,4 +1,4 @@
--- `routing::ask_entries` meets its contract: what is left from entry j on gives the whole route.
+-- `routing::by_table::ask_entries` meets its contract: what is left from entry j on gives the whole route.
 use Prim.Native.Nat.{_-_}
 use native.Mathlib.Omega.{arith}
 use borrow.Author.Needs.{needs}
@@ -7,8 +7,8 @@ use Rattle.reading.specs.SheetPlaces.{sheetAt}
 use Rattle.tables.specs.TableJudged.{entry-here}
 use Rattle.tables.specs.TableSection.{tableAt}
 use Rattle.routing.specs.Tabling.{start, TryingEntries, entries-start, entries-go-on, entries-end}
-use Rattle.routing.proofs.ask_entries.Statement.{statement}
-use Rattle.routing.proofs.ask_entries.Tie as tie
+use Rattle.routing.proofs.by_table.ask_entries.Statement.{statement}
+use Rattle.routing.proofs.by_table.ask_entries.Tie as tie
 
 abbrev Inv-loop : tie.InvT-loop
 Inv-loop s subscriptions t d at n entries so-far₀ j₀ so-far j = TryingEntries (nodesAt d at n) (sheetAt s .patterns) (tableAt t) j so-far
