@@ -15,11 +15,11 @@ use Rattle.meaning.specs.Sections.{Sheet, sheet, Document, document, Entry}
 use Rattle.meaning.specs.Routing.{plainRoute}
 use Rattle.meaning.specs.LabelBytes.{labelsOf, isLabel, labelAt}
 use Rattle.meaning.specs.Calls.{judged, fairTable, threeJudged, Writing, refuses, writes, withRoom, after, mergeWriting, mergeAnswer, buildWriting, buildAnswer}
-use Rattle.meaning.specs.Calls.{plainAnswer, tableAnswer, matchesAnswer, coversAnswer, sheetNumber, documentNumber, tableNumber, labelNumber}
+use Rattle.meaning.specs.Calls.{plainAnswer, tableAnswer, wantedAnswer, matchesAnswer, coversAnswer, sheetNumber, documentNumber, tableNumber, labelNumber}
 use Rattle.meaning.specs.Calls.{labelPart}
 use Rattle.meaning.specs.Given.{Given, refusal, gives, byNumber, ToldByNumber, askedGiven, MergeValues, mergedGiven}
 use Rattle.meaning.specs.Given.{BuildValues, builtGiven, routedGiven, RouteValues, tabledGiven}
-use Rattle.meaning.specs.Promises.{MatchesGives, CoversGives, MergeGives, BuildGives, PlainRouteGives, TableRouteGives}
+use Rattle.meaning.specs.Promises.{MatchesGives, CoversGives, MergeGives, BuildGives, PlainRouteGives, TableRouteGives, WantedGives}
 use Rattle.meaning.specs.declared.Asked.the-variants as asked
 use Rattle.meaning.specs.declared.Merged.the-variants as merged
 use Rattle.meaning.specs.declared.Built.the-variants as built
@@ -109,6 +109,10 @@ module _ {E A : Type 0} (given : E → Given A) (refuse : ℕ → E) (told : (n 
 pub table-route-told : (s t d : List ℕ) → ToldByNumber (tabledGiven (tableAnswer s t d))
 unfolding tableAnswer threeJudged tabledGiven
 table-route-told = three-told tabledGiven tabled.Refused tabled-refused _ λ sh es dc. gives-told _
+
+pub wanted-told : (s t d : List ℕ) → ToldByNumber (askedGiven (wantedAnswer s t d))
+unfolding wantedAnswer threeJudged askedGiven
+wanted-told = three-told askedGiven asked.Refused asked-refused _ λ sh es dc. gives-told _
 
 -- ---- the same of what is written
 
@@ -266,6 +270,10 @@ pub table-route-number : (s t d : List ℕ) → tabledGiven (tableAnswer s t d) 
 unfolding tableAnswer threeJudged tabledGiven refusal gives
 table-route-number = three-number tabledGiven tabled.Refused (λ n. refl) _ (λ sh es dc. refl)
 
+pub wanted-number : (s t d : List ℕ) → askedGiven (wantedAnswer s t d) .number ≡ firstFault (tableNumber s t) (documentNumber s d)
+unfolding wantedAnswer threeJudged askedGiven refusal gives
+wanted-number = three-number askedGiven asked.Refused (λ n. refl) _ (λ sh es dc. refl)
+
 -- ---- a refused call gives zeros or an empty part, and leaves a lent output as found
 
 -- what is given with a number that is not 0 is that number, and zeros
@@ -328,6 +336,9 @@ module _ (s : List ℕ) where
   pub table-route-zeros : (t d : List ℕ) (g : Given RouteValues) → TableRouteGives s t d g → 1 ≤ g .number
       → g ≡ refusal (g .number) (record { set = 0; tried = 0 })
   table-route-zeros t d = zeros-of tabledGiven _ tabled-cases (tableAnswer s t d) (table-route-told s t d)
+
+  pub wanted-zeros : (t d : List ℕ) (g : Given Bool) → WantedGives s t d g → 1 ≤ g .number → g ≡ refusal (g .number) false
+  wanted-zeros t d = zeros-of askedGiven false asked-cases (wantedAnswer s t d) (wanted-told s t d)
 
   -- and the output is as found
   pub merge-zeros : (i j : ℕ) (found : List ℕ) (g : Given MergeValues) (left : List ℕ) → MergeGives s i j found g left → 1 ≤ g .number

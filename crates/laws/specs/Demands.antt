@@ -2,34 +2,34 @@
 -- and numbers, by its promise (`meaning`, Promises); this page says of the answers what the customer asked for. Many theorems
 -- speak of a sheet and a document as they were read: `sheet-of-0` and `document-of-0` give that where the number is 0.
 use Prim.Native.Nat.{ℕ, suc, _+_, _≤_, _<_}
-use mathlib.Core.Path.{_≡_, refl, sym, ap}
+use mathlib.Core.Path.{_≡_, refl, sym, ap, _∙_}
 use mathlib.Core.Logic.{_⊎_, inl, inr, _↔_}
 use mathlib.Core.Bool.{Bool, true, false}
 use mathlib.Core.List.{List, [], List·Memᴰ}
-use borrow.Author.Tests.{ltb-true}
+use borrow.Author.Tests.{ltb-true, lt-ltb}
 use lib.ListN.{length, take}
 use Rattle.base.specs.Bools.{not-both}
 use Rattle.base.specs.Choice.{pick}
 use Rattle.meaning.specs.Numbers.{mostSteps, notThere}
 use Rattle.meaning.specs.Reader.{read, refused, Went, Reader}
 use Rattle.meaning.specs.Forest.{Forest, stepsOf}
-use Rattle.meaning.specs.Sections.{Sheet, sheet, Document, document, Entry}
-use Rattle.meaning.specs.Satisfying.{satisfies}
+use Rattle.meaning.specs.Sections.{Sheet, sheet, Document, document, Node, Entry}
+use Rattle.meaning.specs.Satisfying.{satisfies, parentsOf}
 use Rattle.meaning.specs.Covering.{Laying, covers}
 use Rattle.meaning.specs.Merging.{merge}
 use Rattle.meaning.specs.Building.{stepsTogether, entriesFrom, settle, build}
-use Rattle.meaning.specs.Fair.{isMember, entriesOf}
-use Rattle.meaning.specs.Routing.{plainRoute, tableRoute, tried}
+use Rattle.meaning.specs.Fair.{isMember, entriesOf, fair}
+use Rattle.meaning.specs.Routing.{plainRoute, tableRoute, tried, wanted, triedUntilWanted}
 use Rattle.meaning.specs.LabelBytes.{labelsOf, isLabel, labelAt}
 use Rattle.meaning.specs.ByBytes.{Satisfied}
 use Rattle.meaning.specs.Written.{patternBytes, sheetBytes, tableBytes}
 use Rattle.meaning.specs.Calls.{judged, fairTable, threeJudged, isSubscription, subscription, sheetNumber, documentNumber, tableNumber}
 use Rattle.meaning.specs.Calls.{matchesAnswer, coversAnswer, writes, withRoom, after, mergeWriting, mergeAnswer}
-use Rattle.meaning.specs.Calls.{buildWriting, buildAnswer, plainAnswer, tableAnswer, labelNumber, labelPart}
+use Rattle.meaning.specs.Calls.{buildWriting, buildAnswer, plainAnswer, tableAnswer, wantedAnswer, labelNumber, labelPart}
 use Rattle.meaning.specs.Printing.{asking}
 use Rattle.meaning.specs.Given.{Given, refusal, ToldByNumber, askedGiven, MergeValues, mergedGiven}
 use Rattle.meaning.specs.Given.{BuildValues, builtGiven, routedGiven, RouteValues, tabledGiven}
-use Rattle.meaning.specs.Promises.{MatchesGives, CoversGives, MergeGives, BuildGives, PlainRouteGives, TableRouteGives}
+use Rattle.meaning.specs.Promises.{MatchesGives, CoversGives, MergeGives, BuildGives, PlainRouteGives, TableRouteGives, WantedGives}
 use Rattle.meaning.specs.declared.Asked.{Asked}
 use Rattle.meaning.specs.declared.Asked.the-variants as asked
 use Rattle.meaning.specs.declared.Routed.the-variants as routed
@@ -49,6 +49,8 @@ use Rattle.laws.specs.InOneEntry.{fair-just-one}
 use Rattle.laws.specs.Rounds.{build-within, build-rounds}
 use Rattle.laws.specs.Passing as built
 use Rattle.laws.specs.Routes.{table-is-plain, fair-table-fair, delivered-bit}
+use Rattle.laws.specs.Rising.{Rising}
+use Rattle.laws.specs.Wanted.{notZero, wanted-by-table, wanted-by, answer-wanted, tried-no-more, tried-all}
 use Rattle.laws.specs.Cases as cases
 
 -- ======== 1. "Every call may be given arbitrary bytes and numbers. It ends, reads and writes only inside what it was lent, and
@@ -112,6 +114,9 @@ module _ (s : List ℕ) where
   pub table-route-told-by-number : (t d : List ℕ) → ToldByNumber (tabledGiven (tableAnswer s t d))
   table-route-told-by-number = answers.table-route-told s
 
+  pub wanted-told-by-number : (t d : List ℕ) → ToldByNumber (askedGiven (wantedAnswer s t d))
+  wanted-told-by-number = answers.wanted-told s
+
 -- ---- the order: the number that a route gives is that of the first part that is refused
 
 -- of the plain route the document's, which is judged beside the sheet and after it
@@ -121,6 +126,10 @@ plain-route-order = answers.plain-route-number
 -- of the route by a table first the table's, then the document's
 pub table-route-order : (s t d : List ℕ) → tabledGiven (tableAnswer s t d) .number ≡ answers.firstFault (tableNumber s t) (documentNumber s d)
 table-route-order = answers.table-route-number
+
+-- and so of "does anyone want it"
+pub wanted-order : (s t d : List ℕ) → askedGiven (wantedAnswer s t d) .number ≡ answers.firstFault (tableNumber s t) (documentNumber s d)
+wanted-order = answers.wanted-number
 
 -- ---- a refused call gives its number and zeros, or an empty part, and leaves its output as found: whatever keeps the promise
 
@@ -145,6 +154,9 @@ module _ (s : List ℕ) where
   pub table-route-refused : (t d : List ℕ) (g : Given RouteValues) → TableRouteGives s t d g → 1 ≤ g .number
       → g ≡ refusal (g .number) (record { set = 0; tried = 0 })
   table-route-refused = answers.table-route-zeros s
+
+  pub wanted-refused : (t d : List ℕ) (g : Given Bool) → WantedGives s t d g → 1 ≤ g .number → g ≡ refusal (g .number) false
+  wanted-refused = answers.wanted-zeros s
 
   pub label-refused : (d : List ℕ) (n : ℕ) → 1 ≤ labelNumber s d n → labelPart s d n ≡ []
   label-refused = answers.label-empty s
@@ -311,3 +323,34 @@ built-passes = built.build-passes
 pub output-passes : (s : List ℕ) (limit : ℕ) (out : List ℕ) → (let w = withRoom out (buildWriting s limit) in
     builtGiven (buildAnswer w) .refused ≡ false → tableNumber s (take (builtGiven (buildAnswer w) .values .length) (after out w)) ≡ 0)
 output-passes = built.output-passes
+
+-- ======== Does anyone want it? "The print server asks only whether at least one shed takes the document. The answer may come at the
+-- first match and equals 'the route is not 0' for every sheet, fair table and document. Refusals: as for the table route."
+
+-- for any bytes at all the answer is whether the route by the table is not 0, and it is refused exactly as that route is
+pub wanting : (s t d : List ℕ) → wantedAnswer s t d ≡ notZero (tableAnswer s t d)
+wanting = wanted-by-table
+
+-- for a sheet and a document that were read, and a table that passes the check, the answer is yes exactly if there is a subscription
+-- that the document satisfies
+pub wanted-by-some : (s left : List ℕ) (sh : Sheet) → sheet s ≡ read sh left → (d rest : List ℕ) (dc : Document) → document sh d ≡ read dc rest
+    → (t : List ℕ) → tableNumber s t ≡ 0
+    → Decided (wantedAnswer s t d) ((i : ℕ) × (isSubscription sh i ≡ true) × Satisfied (labelsOf sh dc) (dc .nodes) (subscription sh i))
+unfolding wantedAnswer threeJudged judged isSubscription subscription
+wanted-by-some s left sh was-read d rest dc doc-read t sound =
+    let es = table-of-0 s left sh was-read t sound in
+    let some-one = wanted-by (dc .nodes) (sh .patterns) in
+    let meant = read-by-bytes s left sh was-read d rest dc doc-read in
+    decided (wantedAnswer s t d) (wanted (dc .nodes) (sh .patterns)) _ (rw (was-read, es .reads, doc-read)) (
+      λ h. let (i, l, own) = some-one .0 h in (i, lt-ltb i (length (sh .patterns)) l, meant i (lt-ltb i (length (sh .patterns)) l) .0 own),
+      λ (i, there, m). some-one .1 (i, ltb-true i (length (sh .patterns)) there, meant i there .1 m),
+    )
+
+-- the tries until the answer comes, at the first member that matches, are no more than those of the route, and as many where nobody
+-- wants it. That no more is asked is the contract of the call in code, which asks by the try alone
+pub wanted-early : (ns : List Node) (es : List Entry) (ps : List Forest) → triedUntilWanted ns es ps ≤ tried ns es ps
+wanted-early ns es ps = tried-no-more ns ps es
+
+pub unwanted-late : (ns : List Node) (es : List Entry) (ps : List Forest) → Rising (parentsOf ns) → fair ps es ≡ true → wanted ns ps ≡ false
+    → triedUntilWanted ns es ps ≡ tried ns es ps
+unwanted-late ns es ps up just h = tried-all ns ps es (answer-wanted ns ps es up just ∙ h)

@@ -51,6 +51,7 @@ pub mod BytesDecide
 pub mod Passing
 -- routes
 pub mod Routes
+pub mod Wanted
 pub mod Sheds
 -- the rose bench examples
 pub mod Cases

@@ -15,7 +15,7 @@ use Rattle.meaning.specs.Covering.{covers}
 use Rattle.meaning.specs.Merging.{Merge, merge}
 use Rattle.meaning.specs.Building.{Table, build}
 use Rattle.meaning.specs.Fair.{fair}
-use Rattle.meaning.specs.Routing.{plainRoute, tableRoute, tried}
+use Rattle.meaning.specs.Routing.{plainRoute, tableRoute, tried, wanted}
 use Rattle.meaning.specs.LabelBytes.{labelsOf, isLabel, labelAt}
 use Rattle.meaning.specs.Written.{patternBytes, tableBytes}
 use Rattle.meaning.specs.declared.Asked.{Asked}
@@ -137,6 +137,11 @@ unfoldable pub tableAnswer : List ℕ → List ℕ → List ℕ → Tabled
 tableAnswer =
     threeJudged tabled.Refused (λ sh es dc.
     tabled.Delivered (tableRoute (dc .nodes) es (sh .patterns)) (tried (dc .nodes) es (sh .patterns)))
+
+-- ---- does at least one shed take the document: refusals as for the table route
+
+unfoldable pub wantedAnswer : List ℕ → List ℕ → List ℕ → Asked
+wantedAnswer = threeJudged asked.Refused (λ sh es dc. asked.Said (wanted (dc .nodes) (sh .patterns)))
 
 -- ---- label bytes: the number, and the part, which is empty on a refusal
 

@@ -20,12 +20,12 @@ use Rattle.meaning.specs.Building.{noEntry, entryAt, entrySteps, stepsTo
 use Rattle.meaning.specs.Building.{pairsOf, pairsBelow, joinAt, covering, settleAt, settleTimes, settle, saves, better}
 use Rattle.meaning.specs.Building.{bestOf, bestPair, cut, largest, cutLargest, mergeOrCut, round, roundsFrom, build}
 use Rattle.meaning.specs.Fair.{isMember, hasMember, entriesOf, oneThatCovers, eachInOne, isPeopled, isWithin, fair}
-use Rattle.meaning.specs.Routing.{membersOf, triedFor, tried}
+use Rattle.meaning.specs.Routing.{deliverySet, plainRoute, membersOf, triedFor, tried, wanted, answerComes, untilYes, triedUntilWanted}
 use Rattle.meaning.specs.LabelBytes.{labelsOf, isLabel}
 use Rattle.meaning.specs.Written.{stepBytes, patternBytes}
-use Rattle.meaning.specs.Calls.{judged, fairTable, isSubscription, subscription, sheetNumber, documentNumber, tableNumber}
-use Rattle.meaning.specs.Calls.{matchesAnswer, withRoom, after, mergeWriting, mergeAnswer, labelNumber}
-use Rattle.meaning.specs.Given.{Given, refusal, gives, byNumber, RouteValues, tabledGiven}
+use Rattle.meaning.specs.Calls.{judged, fairTable, threeJudged, isSubscription, subscription, sheetNumber, documentNumber, tableNumber}
+use Rattle.meaning.specs.Calls.{matchesAnswer, wantedAnswer, withRoom, after, mergeWriting, mergeAnswer, labelNumber}
+use Rattle.meaning.specs.Given.{Given, refusal, gives, byNumber, askedGiven, RouteValues, tabledGiven}
 use Rattle.meaning.specs.Printing.{ascii}
 use Rattle.meaning.specs.RoseBench.{sheetR, slash, slashes, a, b, c, star}
 use Rattle.meaning.specs.declared.Asked.{Asked}
@@ -207,7 +207,46 @@ tries =
     (record { members = 5; pattern = slashes a none } ∷ record { members = 2; pattern = slashes c none } ∷ [])
     (slash a none ∷ slash c none ∷ slash a (slash b none) ∷ [])
 
+-- ---- does anyone want it
+
+unfoldable pub wants : List Bool
+wants =
+    -- the second shed alone takes it; both do
+    wanted onlyA (slash b none ∷ slash a none ∷ [])
+    ∷ wanted onlyA (slash a none ∷ slashes a none ∷ [])
+    -- the only subscription doesn't match; there is none
+    ∷ wanted onlyA (slashes a (slashes b none) ∷ [])
+    ∷ wanted onlyA []
+    ∷ []
+
+-- a over b, by a table of //a for 0, //c for 3, and //b for 1 and 2; subscription 3 is //c, and the others are given
+unfoldable pub untilWanted : Forest → Forest → Forest → ℕ
+untilWanted p q r =
+    triedUntilWanted aOverB
+    (record { members = 1; pattern = slashes a none } ∷ record { members = 8; pattern = slashes c none } ∷ record { members = 6; pattern = slashes b none } ∷ [])
+    (p ∷ q ∷ r ∷ slashes c none ∷ [])
+
+unfoldable pub untils : List ℕ
+untils =
+    -- the first member of the first entry: nothing is asked afterwards
+    untilWanted (slash a none) (slashes b none) (slashes b none)
+    -- the first member of the last entry: all entries, and a member of each that matches
+    ∷ untilWanted (slashes a (slashes c none)) (slashes b none) (slashes b none)
+    -- its second member
+    ∷ untilWanted (slashes a (slashes c none)) (slashes b (slashes c none)) (slashes b none)
+    -- none: all entries, and all members of each that matches
+    ∷ untilWanted (slashes a (slashes c none)) (slashes b (slashes c none)) (slashes b (slashes b none))
+    ∷ []
+
 -- ---- what is asked, and what is written
+
+-- labels A and B, and one pattern /B
+unfoldable pub sheetB : List ℕ
+sheetB = 2 ∷ 1 ∷ 65 ∷ 1 ∷ 66 ∷ 1 ∷ 1 ∷ 0 ∷ 0 ∷ 2 ∷ []
+
+-- one entry, without steps: with the only subscription as its member, or without members
+unfoldable pub tableA : ℕ → List ℕ
+tableA members = 1 ∷ members ∷ 0 ∷ 0 ∷ 0 ∷ 0 ∷ 0 ∷ 0 ∷ 0 ∷ 0 ∷ []
 
 unfoldable pub asks : List Asked
 asks =
@@ -215,7 +254,18 @@ asks =
     matchesAnswer sheetA [] 1
     ∷ matchesAnswer sheetA nodeA 1
     ∷ matchesAnswer sheetA nodeA 0
+    -- every document is wanted; the entry matches, and its only member doesn't
+    ∷ wantedAnswer sheetA (tableA 1) nodeA
+    ∷ wantedAnswer sheetB (tableA 1) nodeA
+    -- a document that is wanted is judged in full, and so is its table; 12 comes before the document
+    ∷ wantedAnswer sheetA (tableA 1) (nodeA ++ (0 ∷ []))
+    ∷ wantedAnswer sheetA (tableA 1 ++ (0 ∷ [])) nodeA
+    ∷ wantedAnswer sheetA (tableA 0) []
     ∷ []
+
+-- what is given with yes, and with a refusal
+unfoldable pub saids : List (Given Bool)
+saids = askedGiven (asked.Said true) ∷ askedGiven (asked.Refused 12) ∷ []
 
 -- the merge of the pattern without steps with itself takes one byte
 unfoldable pub mergesInto : List ℕ → Merged
@@ -249,7 +299,10 @@ pub record All : Type 0 where
   pub rounds : List ℕ
   pub settled : List ℕ
   pub tries : ℕ
+  pub wants : List Bool
+  pub untils : List ℕ
   pub asks : List Asked
+  pub saids : List (Given Bool)
   pub writings : List Merged
   pub outputs : List (List ℕ)
   pub givens : List (Given RouteValues)
@@ -264,7 +317,10 @@ answers = record {
   rounds = rounds;
   settled = settled;
   tries = tries;
+  wants = wants;
+  untils = untils;
   asks = asks;
+  saids = saids;
   writings = writings;
   outputs = outputs;
   givens = givens;
@@ -280,7 +336,10 @@ expected = record {
   rounds = 1 ∷ 1 ∷ 2 ∷ 2 ∷ 3 ∷ [];
   settled = 3 ∷ [];
   tries = 4;
-  asks = asked.Refused 1 ∷ asked.Refused 11 ∷ asked.Said true ∷ [];
+  wants = true ∷ true ∷ false ∷ false ∷ [];
+  untils = 2 ∷ 5 ∷ 6 ∷ 6 ∷ [];
+  asks = asked.Refused 1 ∷ asked.Refused 11 ∷ asked.Said true ∷ asked.Said true ∷ asked.Said false ∷ asked.Refused 2 ∷ asked.Refused 2 ∷ asked.Refused 12 ∷ [];
+  saids = record { refused = false; number = 0; values = true } ∷ record { refused = true; number = 12; values = false } ∷ [];
   writings = merged.Refused 10 ∷ merged.Wrote 1 false ∷ merged.Wrote 1 false ∷ [];
   outputs = [] ∷ (0 ∷ []) ∷ (0 ∷ 8 ∷ 9 ∷ []) ∷ [];
   givens =
@@ -292,5 +351,5 @@ expected = record {
 
 pub told-apart : answers ≡ expected
 unfolding
-    answers expected satisfied covered merges expectedMerges measured sized sizes numbers sheetA nodeA rounds settled tries asks mergesInto leaves writings outputs givens refusal gives byNumber tabledGiven node onlyA aOverB aOverBOverC sheetR slash slashes beside a b c star ascii pick some every keep total without numbersFrom go-on _>>=_ _>>_ give repeat unless byte bytes number end numberOf axisOf isNear size childrenIn forest parentIn isChild isBelowIn isBelow reaches sameLabel label labels upFrom pathAfter mayHang isNearRoot nearRoot aStep steps pattern sheet nodeParent aNode nodes document entry table anyOrSame parentsOf labelIn fitsBelow holdBelow satisfies mayLie finds fitsAt lays covers alone joined branchSize laidOn staysBeside nothing offer commonLabel bodyOf meet meetAt across through mergeWithin merge noEntry entryAt entrySteps stepsTogether entriesFrom pair coversOther ascends pairsOf pairsBelow joinAt covering settleAt settleTimes settle saves better bestOf bestPair cut largest cutLargest mergeOrCut round roundsFrom build isMember hasMember entriesOf oneThatCovers eachInOne isPeopled isWithin fair membersOf triedFor tried judged fairTable isSubscription subscription sheetNumber documentNumber tableNumber labelsOf isLabel labelNumber matchesAnswer withRoom after mergeWriting mergeAnswer stepsFrom stepsOf axisNumber stepBytes patternBytes flatMap
+    answers expected satisfied covered merges expectedMerges measured sized sizes numbers sheetA nodeA rounds settled tries wants untilWanted untils sheetB tableA asks saids askedGiven mergesInto leaves writings outputs givens refusal gives byNumber tabledGiven node onlyA aOverB aOverBOverC sheetR slash slashes beside a b c star ascii pick some every keep total without numbersFrom go-on _>>=_ _>>_ give repeat unless byte bytes number end numberOf axisOf isNear size childrenIn forest parentIn isChild isBelowIn isBelow reaches sameLabel label labels upFrom pathAfter mayHang isNearRoot nearRoot aStep steps pattern sheet nodeParent aNode nodes document entry table anyOrSame parentsOf labelIn fitsBelow holdBelow satisfies mayLie finds fitsAt lays covers alone joined branchSize laidOn staysBeside nothing offer commonLabel bodyOf meet meetAt across through mergeWithin merge noEntry entryAt entrySteps stepsTogether entriesFrom pair coversOther ascends pairsOf pairsBelow joinAt covering settleAt settleTimes settle saves better bestOf bestPair cut largest cutLargest mergeOrCut round roundsFrom build isMember hasMember entriesOf oneThatCovers eachInOne isPeopled isWithin fair deliverySet plainRoute membersOf triedFor tried wanted answerComes untilYes triedUntilWanted judged fairTable threeJudged isSubscription subscription sheetNumber documentNumber tableNumber labelsOf isLabel labelNumber matchesAnswer wantedAnswer withRoom after mergeWriting mergeAnswer stepsFrom stepsOf axisNumber stepBytes patternBytes flatMap
 told-apart = refl

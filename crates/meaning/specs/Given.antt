@@ -39,11 +39,11 @@ module _ {A : Type 0} where
   abbrev pub ToldByNumber : Given A → Type 0
   ToldByNumber g = g .refused ≡ not (eqb (g .number) done)
 
--- ---- does a subscription match, does it cover: yes or no
+-- ---- does a subscription match, does it cover, does anyone want the document: yes or no
 
 unfoldable pub askedGiven : Asked → Given Bool
 askedGiven (asked.Refused n) = refusal n false
-askedGiven (asked.Said yes′) = gives yes′
+askedGiven (asked.Said said) = gives said
 
 -- ---- a merge: how many bytes are written, and the mark
 

@@ -7,7 +7,7 @@ use mathlib.Core.List.{List}
 use Rattle.meaning.specs.Given.{Given, askedGiven, MergeValues, mergedGiven, BuildValues, builtGiven, routedGiven, RouteValues, tabledGiven}
 use Rattle.meaning.specs.Routing.{shedsIn, lowestShed}
 use Rattle.meaning.specs.Calls.{sheetNumber, documentNumber, tableNumber, matchesAnswer, coversAnswer, withRoom, after, mergeWriting}
-use Rattle.meaning.specs.Calls.{mergeAnswer, buildWriting, buildAnswer, plainAnswer, tableAnswer, labelNumber, labelPart}
+use Rattle.meaning.specs.Calls.{mergeAnswer, buildWriting, buildAnswer, plainAnswer, tableAnswer, wantedAnswer, labelNumber, labelPart}
 
 -- ---- the three checks
 
@@ -45,6 +45,11 @@ PlainRouteGives s d given = given ≡ routedGiven (plainAnswer s d)
 
 abbrev pub TableRouteGives : List ℕ → List ℕ → List ℕ → Given RouteValues → Type 0
 TableRouteGives s t d given = given ≡ tabledGiven (tableAnswer s t d)
+
+-- does anyone want it
+
+abbrev pub WantedGives : List ℕ → List ℕ → List ℕ → Given Bool → Type 0
+WantedGives s t d given = given ≡ askedGiven (wantedAnswer s t d)
 
 -- of a delivery set: how many sheds, and the lowest
 

@@ -1,12 +1,13 @@
--- Routing: which subscriptions are delivered, and how many patterns are tried.
+-- Routing: which subscriptions are delivered, whether there is one, and how many patterns are tried.
 use Prim.Native.Nat.{ℕ, suc, _+_, _*_}
-use mathlib.Core.Bool.{Bool, _&&_}
-use mathlib.Core.List.{List, [], _∷_, map}
+use mathlib.Core.Bool.{Bool, false, not, _&&_}
+use mathlib.Core.List.{List, [], _∷_, map, flatMap}
 use lib.Count.{ones, trailingZeros}
-use lib.ListN.{length}
+use lib.Dec.{eqb}
+use lib.ListN.{length, getD}
 use Rattle.base.specs.Choice.{pick}
 use Rattle.base.specs.Lists.{some, keep, total, numbersFrom}
-use Rattle.meaning.specs.Forest.{Forest}
+use Rattle.meaning.specs.Forest.{Forest, none}
 use Rattle.meaning.specs.Sections.{Node, Entry}
 use Rattle.meaning.specs.Satisfying.{satisfies}
 use Rattle.meaning.specs.Fair.{isMember, hasMember}
@@ -45,6 +46,32 @@ triedFor ns n e = pick (satisfies ns (e .pattern)) (length (membersOf n (e .memb
 -- patterns tried: all entries, plus all members of each entry that matches
 unfoldable pub tried : List Node → List Entry → List Forest → ℕ
 tried ns es ps = length es + total (triedFor ns (length ps)) es
+
+-- does anyone want it: whether at least one shed takes the document, that is, whether the plain route is not 0; and so is the route
+-- by any fair table, as `laws` proves
+unfoldable pub wanted : List Node → List Forest → Bool
+wanted ns ps = not (eqb (plainRoute ns ps) 0)
+
+-- for each pattern that is asked for an entry, in order, whether the answer comes there: never at the entry's own, even if it
+-- matches; then, if it matches, at a member that matches
+unfoldable pub answerComes : List Node → List Forest → Entry → List Bool
+answerComes ns ps e =
+    let said = map (λ i. satisfies ns (getD ps i none)) (membersOf (length ps) (e .members)) in
+    false ∷ pick (satisfies ns (e .pattern)) said []
+
+-- at least one of them is yes
+unfoldable pub anyYes : List Bool → Bool
+anyYes saids = some (λ said. said) saids
+
+-- how many are asked until the answer comes, that one counted; all where it doesn't come
+unfoldable pub untilYes : List Bool → ℕ
+untilYes [] = 0
+untilYes (said ∷ more) = let later = untilYes more in suc (pick said 0 later)
+
+-- patterns tried until the answer comes: each entry in order and, if it matches, its members in order before the next entry; all of
+-- these where no member matches
+unfoldable pub triedUntilWanted : List Node → List Entry → List Forest → ℕ
+triedUntilWanted ns es ps = untilYes (flatMap (answerComes ns ps) es)
 
 -- how many sheds get a notice: the number of ones
 unfoldable pub shedsIn : ℕ → ℕ

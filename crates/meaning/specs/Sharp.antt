@@ -6,7 +6,7 @@ use mathlib.Core.List.{List}
 use Rattle.meaning.specs.Given.{Given, refusal, gives, byNumber, askedGiven, MergeValues, mergedGiven}
 use Rattle.meaning.specs.Given.{BuildValues, builtGiven, routedGiven, RouteValues, tabledGiven}
 use Rattle.meaning.specs.Promises.{SheetCheckGives, DocumentCheckGives, TableCheckGives, MatchesGives, CoversGives, MergeGives, BuildGives}
-use Rattle.meaning.specs.Promises.{PlainRouteGives, TableRouteGives, ShedsGives, LowestShedGives, LabelNumberGives, LabelBytesGives}
+use Rattle.meaning.specs.Promises.{PlainRouteGives, TableRouteGives, WantedGives, ShedsGives, LowestShedGives, LabelNumberGives, LabelBytesGives}
 use Rattle.meaning.specs.declared.Asked.{Asked}
 use Rattle.meaning.specs.declared.Asked.the-variants as asked
 use Rattle.meaning.specs.declared.Merged.{Merged}
@@ -107,6 +107,9 @@ module _ (s : List ℕ) where
 
     pub table-route-sharp : (d : List ℕ) (x y : Tabled) → TableRouteGives s t d (tabledGiven x) → TableRouteGives s t d (tabledGiven y) → x ≡ y
     table-route-sharp d x y e f = tabled-tells x y (only-one e f)
+
+    pub wanted-sharp : (d : List ℕ) (x y : Asked) → WantedGives s t d (askedGiven x) → WantedGives s t d (askedGiven y) → x ≡ y
+    wanted-sharp d x y e f = asked-tells x y (only-one e f)
 
   -- with a lent output
   module _ (out : List ℕ) where

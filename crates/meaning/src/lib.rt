@@ -49,7 +49,7 @@ pub struct Step {
     pub label: u8,
 }
 
-// Does a subscription match, does it cover?
+// Does a subscription match, does it cover, does anyone want the document?
 pub enum Asked {
     Refused(u8),
     Said(bool),
