@@ -33,7 +33,7 @@ pub fn answer(l: u8) -> bool {
 
 fn is_letter(l: u8) -> bool {
     match l {
-        b'S' | b'D' | b'T' | b'M' | b'C' | b'G' | b'B' | b'P' | b'R' | b'L' => true,
+        b'S' | b'D' | b'T' | b'M' | b'C' | b'G' | b'B' | b'P' | b'R' | b'W' | b'L' => true,
         _ => false,
     }
 }
@@ -48,7 +48,7 @@ fn call(l: u8, s: &[u8]) -> bool {
         b'G' => merge(s),
         b'B' => build(s),
         b'P' => plain_route(s),
-        b'R' => table_route(s),
+        b'R' | b'W' => with_table(l, s),
         b'L' => label(s),
         _ => false,
     }
@@ -199,7 +199,8 @@ fn delivered(number: u8, set: u64) {
     output::value(hub::lowest_shed(set) as u64);
 }
 
-fn table_route(s: &[u8]) -> bool {
+// A table and a document: the route by the table, or whether anyone wants the document.
+fn with_table(l: u8, s: &[u8]) -> bool {
     let mut t = io::large_buffer();
     let mut d = io::large_buffer();
     let k = input::bytes(&mut t);
@@ -210,11 +211,19 @@ fn table_route(s: &[u8]) -> bool {
     if !m.whole {
         return false;
     }
-    match hub::table_route(s, &t[..k.count], &d[..m.count]) {
+    if l == b'R' {
+        table_route(s, &t[..k.count], &d[..m.count]);
+    } else {
+        asked(hub::wanted(s, &t[..k.count], &d[..m.count]));
+    }
+    true
+}
+
+fn table_route(s: &[u8], t: &[u8], d: &[u8]) {
+    match hub::table_route(s, t, d) {
         Tabled::Refused(number) => by_table(number, 0, 0),
         Tabled::Delivered { set, tried } => by_table(0, set, tried as u64),
     }
-    true
 }
 
 fn by_table(number: u8, set: u64, tried: u64) {

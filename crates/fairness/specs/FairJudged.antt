@@ -21,7 +21,7 @@ use Rattle.meaning.specs.Calls.{judged, fairTable, tableNumber}
 use Rattle.reading.specs.SheetPlaces.{sheetAt}
 use Rattle.reading.specs.SheetSection.{sheetPlace}
 use Rattle.places.specs.Bytes.{numberAt}
-use Rattle.places.specs.Answer.{passed-on}
+use Rattle.places.specs.Answer.{passed, passed-on}
 use Rattle.reading.specs.SheetJudged.{sheet-judged, sheet-stands}
 use Rattle.subscriptions.specs.declared.Subscriptions.{Subscriptions}
 use Rattle.subscriptions.specs.Taken.{subscriptionsOf}
@@ -121,7 +121,11 @@ module _ (s t : List ℕ) where
   unfolding andThen
   place-refused h = sym (last ∙ rw h)
 
-  -- where the table check was passed, subscriptions and entries stand
+  -- where the table check was passed, the table is fair
+  pub was-fair : {y : ℕ} → fairPlace s t ≡ At y → fairAt s t ≡ true
+  was-fair {y} h = passed (fairAt s t) _ notFair y (passed-on (sheetTablePlace s t) _ y (sym last ∙ h) .2) .0
+
+  -- and subscriptions and entries stand
   pub fair-stand : {y : ℕ} {v : Subscriptions} {w : Entries} → fairPlace s t ≡ At y → v ≡ subscriptionsOf s → w ≡ tableEntries t
       → SubscriptionsStand s v × EntriesStand t w
   fair-stand {y} h e f =

@@ -10,7 +10,7 @@ use reading::sheet_number;
 use routing::subscription_matches;
 ghost use Rattle.meaning.specs.Given.{askedGiven, mergedGiven, builtGiven, routedGiven, tabledGiven};
 ghost use Rattle.meaning.specs.Promises.{SheetCheckGives, DocumentCheckGives, TableCheckGives, MatchesGives, CoversGives, MergeGives, BuildGives};
-ghost use Rattle.meaning.specs.Promises.{PlainRouteGives, TableRouteGives, ShedsGives, LowestShedGives, LabelNumberGives, LabelBytesGives};
+ghost use Rattle.meaning.specs.Promises.{PlainRouteGives, TableRouteGives, WantedGives, ShedsGives, LowestShedGives, LabelNumberGives, LabelBytesGives};
 
 // The number of a sheet: 0 where it is sound.
 pub fn sheet_check(s: &[u8]) -> u8
@@ -73,6 +73,13 @@ pub fn table_route(s: &[u8], t: &[u8], d: &[u8]) -> Tabled
     ensures { λ r. ⌜ TableRouteGives (now (s .entry)) (now (t .entry)) (now (d .entry)) (tabledGiven r) ⌝ }
 {
     routing::table_route(s, t, d)
+}
+
+// Does at least one shed take the document?
+pub fn wanted(s: &[u8], t: &[u8], d: &[u8]) -> Asked
+    ensures { λ r. ⌜ WantedGives (now (s .entry)) (now (t .entry)) (now (d .entry)) (askedGiven r) ⌝ }
+{
+    routing::wanted(s, t, d)
 }
 
 // The number for a label asked for: 0 where there is such a label.

@@ -1,13 +1,14 @@
--- The promises determine what the print server is given: any two routes that they allow are equal. (That of the sheet check is
+-- The promises determine what the print server is given: any two answers that they allow are equal. (That of the sheet check is
 -- a number alone: `sheet-check-sharp` of `meaning`.)
 use Prim.Native.Nat.{ℕ}
 use mathlib.Core.Path.{_≡_}
 use mathlib.Core.List.{List}
 use Rattle.meaning.specs.Given.{byNumber, RouteValues}
-use Rattle.meaning.specs.Promises.{PlainRouteGives, TableRouteGives}
+use Rattle.meaning.specs.Promises.{PlainRouteGives, TableRouteGives, WantedGives}
 use Rattle.meaning.specs.Sharp.{only-one, by-number-tells}
 use Rattle.hub_c.specs.declared.PlainRoute.{PlainRoute}
 use Rattle.hub_c.specs.declared.TableRoute.{TableRoute}
+use Rattle.hub_c.specs.declared.Wanted.{Wanted}
 
 -- the set and the tries
 abbrev routed : TableRoute → RouteValues
@@ -25,3 +26,9 @@ module _ (s d : List ℕ) where
   table-route-sharp t x y e f =
       let same = by-number-tells (x .number) (y .number) (routed x) (routed y) (only-one e f) in
       λ i. record { number = same .0 i; delivered = same .1 i .set; tried = same .1 i .tried }
+
+  pub wanted-sharp : (t : List ℕ) (x y : Wanted) → WantedGives s t d (byNumber (x .number) (x .wanted))
+      → WantedGives s t d (byNumber (y .number) (y .wanted)) → x ≡ y
+  wanted-sharp t x y e f =
+      let same = by-number-tells (x .number) (y .number) (x .wanted) (y .wanted) (only-one e f) in
+      λ i. record { number = same .0 i; wanted = same .1 i }

@@ -1,8 +1,10 @@
-// The calls of the print server in C: the sheet check, the plain route and the route by a table (include/hub.h).
+// The calls of the print server in C: the sheet check, the plain route, the route by a table, and whether anyone wants a document
+// (include/hub.h).
+use meaning::Asked;
 use meaning::Routed;
 use meaning::Tabled;
 ghost use Rattle.meaning.specs.Given.{byNumber};
-ghost use Rattle.meaning.specs.Promises.{SheetCheckGives, PlainRouteGives, TableRouteGives};
+ghost use Rattle.meaning.specs.Promises.{SheetCheckGives, PlainRouteGives, TableRouteGives, WantedGives};
 
 // The plain route: the number, and the delivery set.
 #[repr(C)]
@@ -17,6 +19,13 @@ pub struct TableRoute {
     pub number: u8,
     pub delivered: u64,
     pub tried: u64,
+}
+
+// Whether at least one shed takes a document: the number, and yes or no.
+#[repr(C)]
+pub struct Wanted {
+    pub number: u8,
+    pub wanted: bool,
 }
 
 #[no_mangle]
@@ -57,6 +66,22 @@ pub extern "C" fn hub_table_route(s: &[u8], t: &[u8], d: &[u8]) -> TableRoute
             number: 0,
             delivered: set,
             tried: tried as u64,
+        },
+    }
+}
+
+#[no_mangle]
+pub extern "C" fn hub_wanted(s: &[u8], t: &[u8], d: &[u8]) -> Wanted
+    ensures { λ r. ⌜ WantedGives (now (s .entry)) (now (t .entry)) (now (d .entry)) (byNumber (r .number) (r .wanted)) ⌝ }
+{
+    match hub::wanted(s, t, d) {
+        Asked::Refused(n) => Wanted {
+            number: n,
+            wanted: false,
+        },
+        Asked::Said(yes) => Wanted {
+            number: 0,
+            wanted: yes,
         },
     }
 }

@@ -70,7 +70,7 @@ set-not-0 (false ∷ bs) = twice (deliverySet bs) ∙ set-not-0 bs
     twice (suc n) = ap not (ne-eqb (0 + 2 * suc n) 0 (λ e. omega arith) ∙ sym (ne-eqb (suc n) 0 (λ e. omega arith)))
 
 -- asking ends at the last
-until-few : (bs : List Bool) → untilYes bs ≤ length bs
+pub until-few : (bs : List Bool) → untilYes bs ≤ length bs
 unfolding untilYes pick
 until-few [] = omega arith
 until-few (true ∷ bs) = omega arith
@@ -154,7 +154,7 @@ module _ (ns : List Node) (ps : List Forest) where
   -- ---- how many are tried
 
   -- for an entry
-  comes-long : (e : Entry) → length (answerComes ns ps e) ≡ 1 + triedFor ns (length ps) e
+  pub comes-long : (e : Entry) → length (answerComes ns ps e) ≡ 1 + triedFor ns (length ps) e
   unfolding answerComes triedFor pick
   comes-long e = go (satisfies ns (e .pattern))
     where

@@ -2,4 +2,5 @@ pub mod Plain
 pub mod ThreeJudged
 pub mod Tabling
 pub mod TableSet
+pub mod Wanting
 pub mod RouteAnswers

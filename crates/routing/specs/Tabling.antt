@@ -73,6 +73,15 @@ member-tried-few members i said r q h = rw h (go (isMember members i))
     go true = omega arith
     go false = omega arith
 
+-- an entry has at most as many members as there are subscriptions
+pub tried-for-few : (ns : List Node) (n : ℕ) (e : Entry) → triedFor ns n e ≤ n
+unfolding triedFor membersOf pick
+tried-for-few ns n e = go (satisfies ns (e .pattern))
+  where
+    go : (b : Bool) → pick b (length (keep (isMember (e .members)) (numbersFrom 0 n))) 0 ≤ n
+    go true = omega (arith, length-keep (isMember (e .members)) (numbersFrom 0 n), length-numbersFrom 0 n)
+    go false = omega arith
+
 module _ (ns : List Node) (ps : List Forest) where
   -- subscription i, by its own pattern
   unfoldable pub askMember : ℕ → ℕ → Route → Route
@@ -121,14 +130,7 @@ module _ (ns : List Node) (ps : List Forest) where
 
   -- at most one and as many as there are subscriptions
   entry-tried-few : (e : Entry) (r q : Route) → q ≡ askEntry e r → q .tried ≤ r .tried + 1 + length ps
-  unfolding triedFor membersOf pick
-  entry-tried-few e r q h =
-      let most : triedFor ns (length ps) e ≤ length ps = go (satisfies ns (e .pattern)) in
-      rw h (omega (arith, entry-tried e r))
-    where
-      go : (b : Bool) → pick b (length (keep (isMember (e .members)) (numbersFrom 0 (length ps)))) 0 ≤ length ps
-      go true = omega (arith, length-keep (isMember (e .members)) (numbersFrom 0 (length ps)), length-numbersFrom 0 (length ps))
-      go false = omega arith
+  entry-tried-few e r q h = rw h (omega (arith, entry-tried e r, tried-for-few ns (length ps) e))
 
   -- by entries
   along-tried : (es : List Entry) (r : Route) → (foldAlong askEntry es r) .tried ≡ r .tried + (length es + total (triedFor ns (length ps)) es)

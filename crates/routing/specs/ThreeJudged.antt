@@ -1,11 +1,13 @@
 -- Sheet, table and document judged by places, in this order.
 use Prim.Native.Nat.{ℕ, _+_}
 use mathlib.Core.Path.{_≡_, ap, _∙_}
+use mathlib.Core.Bool.{true}
 use mathlib.Core.List.{List}
 use Rattle.base.specs.Loops.{andThen}
 use Rattle.base.specs.declared.Cur.{Cur}
 use Rattle.base.specs.declared.Cur.the-variants.{At}
 use Rattle.meaning.specs.Sections.{Sheet, Document, document, Entry}
+use Rattle.meaning.specs.Fair.{fair}
 use Rattle.meaning.specs.Calls.{judged, threeJudged}
 use Rattle.places.specs.Answer.{passed-on}
 use Rattle.places.specs.Bytes.{pairAt}
@@ -19,7 +21,7 @@ use Rattle.subscriptions.specs.Subscribed.{SubscriptionsStand}
 use Rattle.tables.specs.declared.Entries.{Entries}
 use Rattle.tables.specs.TableSection.{tableAt, tableEntries}
 use Rattle.tables.specs.TableJudged.{EntriesStand}
-use Rattle.fairness.specs.FairJudged.{fairPlace, fair-judged, fair-stand}
+use Rattle.fairness.specs.FairJudged.{fairAt, fairPlace, fair-judged, was-fair, fair-stand}
 
 -- where all three end: the sheet and the table, 12 last, then the document
 unfoldable pub threePlace : List ℕ → List ℕ → List ℕ → Cur
@@ -35,11 +37,20 @@ module _ (s t d : List ℕ) where
       ∙ ap (reached (fairPlace s t) refuse) (document-judged s d refuse (next (sheetAt s) (tableAt t)))
       ∙ reached-twice (fairPlace s t) (documentPlace s d) refuse (next (sheetAt s) (tableAt t) (documentAt d))
 
-  -- subscriptions, entries and nodes stand where it was reached
+  -- where it was reached, the document's nodes stand
+  pub three-nodes : {y at n : ℕ} → threePlace s t d ≡ At y → at ≡ nodeCountAt d + 2 → n ≡ pairAt d (nodeCountAt d) → NodesStand d at n
+  unfolding threePlace
+  three-nodes {y} h a b = document-stands s d y _ _ (passed-on (fairPlace s t) _ y h .2) a b
+
+  -- and so do subscriptions and entries
   pub three-stand : {y at n : ℕ} {v : Subscriptions} {w : Entries} → threePlace s t d ≡ At y → v ≡ subscriptionsOf s → w ≡ tableEntries t
       → at ≡ nodeCountAt d + 2 → n ≡ pairAt d (nodeCountAt d) → SubscriptionsStand s v × EntriesStand t w × NodesStand d at n
   unfolding threePlace
   three-stand {y} h e f a b =
-      let two = passed-on (fairPlace s t) _ y h in
-      let both = fair-stand s t (two .1) e f in
-      (both .0, both .1, document-stands s d y _ _ (two .2) a b)
+      let both = fair-stand s t (passed-on (fairPlace s t) _ y h .1) e f in
+      (both .0, both .1, three-nodes h a b)
+
+  -- the table is fair
+  pub three-fair : {y : ℕ} → threePlace s t d ≡ At y → fair (sheetAt s .patterns) (tableAt t) ≡ true
+  unfolding threePlace fairAt
+  three-fair {y} h = was-fair s t (passed-on (fairPlace s t) _ y h .1)

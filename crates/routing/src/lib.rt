@@ -1,7 +1,9 @@
-// Routing: which subscriptions of a sheet a document is delivered to.
+// Routing: which subscriptions of a sheet a document is delivered to, and whether there is one.
 pub mod by_table; // by_table.rt: entries tried, and the members of each that matches
+pub mod wanting; // wanting.rt: the same until a member matches
 
 use crate::by_table::ask_entries;
+use crate::wanting::try_entries;
 use base::Cur;
 use documents::document;
 use documents::node_count;
@@ -20,7 +22,7 @@ use tables::entries_in;
 ghost use mathlib.Core.Path.{_≡_};
 ghost use Rattle.meaning.specs.Satisfying.{satisfies};
 ghost use Rattle.meaning.specs.Routing.{plainRoute};
-ghost use Rattle.meaning.specs.Calls.{matchesAnswer, plainAnswer, tableAnswer};
+ghost use Rattle.meaning.specs.Calls.{matchesAnswer, plainAnswer, tableAnswer, wantedAnswer};
 ghost use Rattle.shapes.specs.Shapes.{nodesAt, patternOf, WellFormed};
 ghost use Rattle.reading.specs.SheetPlaces.{sheetAt};
 ghost use Rattle.subscriptions.specs.Taken.{patternAt};
@@ -118,5 +120,26 @@ pub fn table_route(s: &[u8], t: &[u8], d: &[u8]) -> Tabled
             }
         }
         Cur::No(m) => Tabled::Refused(m),
+    }
+}
+
+// Does at least one shed take the document?
+pub fn wanted(s: &[u8], t: &[u8], d: &[u8]) -> Asked
+    ensures { λ r. ⌜ r ≡ wantedAnswer (now (s .entry)) (now (t .entry)) (now (d .entry)) ⌝ }
+{
+    match sheet_table_and_document(s, t, d) {
+        Cur::At(x) => {
+            let asked = try_entries(
+                s,
+                subscriptions_in(s),
+                t,
+                entries_in(t),
+                d,
+                node_place(d),
+                node_count(d),
+            );
+            Asked::Said(asked.yes)
+        }
+        Cur::No(m) => Asked::Refused(m),
     }
 }

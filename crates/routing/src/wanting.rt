@@ -1,0 +1,100 @@
+// Does anyone want a document? Entries and members are tried in the order of the route by a table, until a member matches.
+use crate::by_table::try_member;
+use matching::Tried;
+use matching::try_pattern;
+use shapes::Entry;
+use subscriptions::Subscriptions;
+use tables::Entries;
+use tables::entry_at;
+ghost use mathlib.Core.Path.{_≡_};
+ghost use mathlib.Core.List.{flatMap};
+ghost use Prim.Native.Nat.{_^_, _<_};
+ghost use Rattle.meaning.specs.Routing.{answerComes, anyYes, triedUntilWanted};
+ghost use Rattle.shapes.specs.Shapes.{nodesAt, entryOf, WellFormed};
+ghost use Rattle.reading.specs.SheetPlaces.{sheetAt};
+ghost use Rattle.subscriptions.specs.Subscribed.{SubscriptionsStand};
+ghost use Rattle.tables.specs.TableSection.{tableAt};
+ghost use Rattle.tables.specs.TableJudged.{EntriesStand};
+ghost use Rattle.documents.specs.DocumentJudged.{NodesStand};
+ghost use Rattle.routing.specs.Wanting.{asking, membersSay};
+
+// Members are tried until one matches.
+fn try_members(
+    s: &[u8],
+    subscriptions: Subscriptions,
+    d: &[u8],
+    at: usize,
+    n: usize,
+    members: u64,
+    tried: usize,
+) -> Tried
+    requires { ⌜ SubscriptionsStand (now s) subscriptions × NodesStand (now d) at n × (tried < 2 ^ 31) ⌝ }
+    ensures { λ r. ⌜ r ≡ asking (membersSay (nodesAt (now (d .entry)) at n) (sheetAt (now (s .entry)) .patterns) members) tried ⌝ }
+{
+    let mut so_far = tried;
+    let mut i = 0;
+    while i < subscriptions.count {
+        let x = subscriptions.places[i];
+        let asked = try_member(s, x, d, at, n, members, i, so_far);
+        if asked.yes {
+            return asked;
+        }
+        so_far = asked.tried;
+        i += 1;
+    }
+    Tried {
+        yes: false,
+        tried: so_far,
+    }
+}
+
+// An entry is tried, and if it matches its members until one does. That the entry matches decides nothing.
+fn try_entry(
+    s: &[u8],
+    subscriptions: Subscriptions,
+    d: &[u8],
+    at: usize,
+    n: usize,
+    e: Entry,
+    tried: usize,
+) -> Tried
+    requires { ⌜ SubscriptionsStand (now s) subscriptions × NodesStand (now d) at n × WellFormed (e .pattern) × (tried < 2 ^ 30) ⌝ }
+    ensures { λ r. ⌜ r ≡ asking (answerComes (nodesAt (now (d .entry)) at n) (sheetAt (now (s .entry)) .patterns) (entryOf e)) tried ⌝ }
+{
+    let asked = try_pattern(d, at, n, e.pattern, tried);
+    if asked.yes {
+        return try_members(s, subscriptions, d, at, n, e.members, asked.tried);
+    }
+    asked
+}
+
+// Entries are tried until a member of one matches: whether one does, and how many patterns were tried.
+pub fn try_entries(
+    s: &[u8],
+    subscriptions: Subscriptions,
+    t: &[u8],
+    entries: Entries,
+    d: &[u8],
+    at: usize,
+    n: usize,
+) -> Tried
+    requires { ⌜ SubscriptionsStand (now s) subscriptions × EntriesStand (now t) entries × NodesStand (now d) at n ⌝ }
+    ensures { λ r. ⌜ (r .yes ≡ anyYes (flatMap (answerComes (nodesAt (now (d .entry)) at n) (sheetAt (now (s .entry)) .patterns)) (tableAt (now (t .entry)))))
+        × (r .tried ≡ triedUntilWanted (nodesAt (now (d .entry)) at n) (tableAt (now (t .entry))) (sheetAt (now (s .entry)) .patterns)) ⌝ }
+{
+    let mut so_far = 0;
+    let mut j = 0;
+    while j < entries.count {
+        let e = entry_at(t, entries.places[j]);
+        let asked = try_entry(s, subscriptions, d, at, n, e, so_far);
+        if asked.yes {
+            return asked;
+        }
+        so_far = asked.tried;
+        j += 1;
+    }
+    Tried {
+        yes: false,
+        tried: so_far,
+    }
+}
