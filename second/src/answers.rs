@@ -8,7 +8,7 @@ use crate::merging::{merge, Rule};
 use crate::numbers::{Judged, Refusal, ASKED, ROOM, UNFAIR};
 use crate::question::{hex, next_question, Next, Question};
 use crate::reading;
-use crate::routing::{fair, plain_route, table_route};
+use crate::routing::{fair, plain_route, table_route, Found};
 use crate::trees::{written, written_table, Document, Entry, Pattern, Sheet};
 use std::io::{self, Write};
 
@@ -102,6 +102,14 @@ fn read_table(question: &Question, sheet: &Sheet) -> Result<Vec<Entry>, Refusal>
         return Err(refusal(Judged::Table, UNFAIR));
     }
     Ok(entries)
+}
+
+/// All that a route by a table is asked with, each judged in full before the next.
+fn read_all(question: &Question) -> Result<(Sheet, Vec<Entry>, Document), Refusal> {
+    let sheet = read_sheet(question)?;
+    let entries = read_table(question, &sheet)?;
+    let document = read_document(question, &sheet)?;
+    Ok((sheet, entries, document))
 }
 
 fn subscription(sheet: &Sheet, number: u64) -> Result<&Pattern, Refusal> {
@@ -208,16 +216,15 @@ fn plain(question: &Question) -> Result<Values, Refusal> {
 }
 
 fn by_table(question: &Question) -> Result<Values, Refusal> {
-    let sheet = read_sheet(question)?;
-    let entries = read_table(question, &sheet)?;
-    let document = read_document(question, &sheet)?;
+    let (sheet, entries, document) = read_all(question)?;
     let route = table_route(&sheet, &entries, &document);
     // Demand 3: a fair table delivers to the same subscriptions as asking each one.
     assert_eq!(route.delivered, plain_route(&sheet, &document));
-    let kind = match (route.matched, route.delivered) {
-        (0, _) => "no entry matches",
-        (_, 0) => "entries match, to none",
-        _ => "to some",
+    let some_match = route.found.iter().any(|&found| found != Found::NoMatch);
+    let kind = match (some_match, route.delivered) {
+        (false, _) => "no entry matches",
+        (true, 0) => "entries match, to none",
+        (true, _) => "to some",
     };
     let values = format!(" {:016x} {}", route.delivered, route.tried);
     Ok(Values(values, kind))

@@ -14,30 +14,41 @@ pub fn plain_route(sheet: &Sheet, document: &Document) -> u64 {
     delivered
 }
 
+/// What comes of an entry for a document.
+#[derive(Clone, Copy, PartialEq, Eq, Debug)]
+pub enum Found {
+    NoMatch,
+    /// It matches, and none of its members does.
+    InVain,
+    /// It matches, and some of its members do.
+    Members,
+}
+
 pub struct TableRoute {
     pub delivered: u64,
     pub tried: usize,
-    /// How many entries matched.
-    pub matched: usize,
+    /// For each entry.
+    pub found: Vec<Found>,
 }
 
 pub fn table_route(sheet: &Sheet, entries: &[Entry], document: &Document) -> TableRoute {
     let mut route = TableRoute {
         delivered: 0,
         tried: 0,
-        matched: 0,
+        found: vec![Found::NoMatch; entries.len()],
     };
-    for entry in entries {
+    for (entry, found) in entries.iter().zip(&mut route.found) {
         route.tried += 1;
         if !satisfies_checked(document, &entry.pattern) {
             continue;
         }
-        route.matched += 1;
+        *found = Found::InVain;
         for (i, pattern) in sheet.patterns.iter().enumerate() {
             if has_member(entry, i) {
                 route.tried += 1;
                 if satisfies_checked(document, pattern) {
                     route.delivered |= 1 << i;
+                    *found = Found::Members;
                 }
             }
         }
