@@ -8,7 +8,7 @@ use crate::merging::{merge, Rule};
 use crate::numbers::{Judged, Refusal, ASKED, ROOM, UNFAIR};
 use crate::question::{hex, next_question, Next, Question};
 use crate::reading;
-use crate::routing::{fair, plain_route, table_route, Found};
+use crate::routing::{fair, plain_route, table_route, wanted, Found};
 use crate::trees::{written, written_table, Document, Entry, Pattern, Sheet};
 use std::io::{self, Write};
 
@@ -47,6 +47,7 @@ pub fn answer(question: &Question) -> Answer {
         b'B' => table_for(question),
         b'P' => plain(question),
         b'R' => by_table(question),
+        b'W' => is_wanted(question),
         b'L' => label_bytes(question),
         letter => panic!("no such letter: {letter}"),
     };
@@ -66,7 +67,7 @@ pub fn answer(question: &Question) -> Answer {
 fn zeros(question: &Question) -> String {
     match question.letter {
         b'S' | b'D' | b'T' => String::new(),
-        b'M' | b'C' => " 0".to_string(),
+        b'M' | b'C' | b'W' => " 0".to_string(),
         b'G' | b'B' => format!(" 0 0 {}", lent_bytes(&[], question.room)),
         b'P' => format!(" {:016x} 0 64", 0),
         b'R' => format!(" {:016x} 0", 0),
@@ -230,6 +231,31 @@ fn by_table(question: &Question) -> Result<Values, Refusal> {
     Ok(Values(values, kind))
 }
 
+/// The table is judged, but has no part in the value; it only says of which kind the answer is.
+fn is_wanted(question: &Question) -> Result<Values, Refusal> {
+    let (sheet, entries, document) = read_all(question)?;
+    let yes = wanted(&sheet, &document);
+    let route = table_route(&sheet, &entries, &document);
+    // Yes is a route that is not 0.
+    assert_eq!(yes, route.delivered != 0);
+    let Values(value, _) = yes_or_no(yes);
+    Ok(Values(value, way_to_first(&route.found)))
+}
+
+/// What stands before the first entry that has a member which matches.
+fn way_to_first(found: &[Found]) -> &'static str {
+    let first = found.iter().position(|&found| found == Found::Members);
+    let before = &found[..first.unwrap_or(found.len())];
+    let in_vain = before.contains(&Found::InVain);
+    match (first, in_vain) {
+        (None, false) => "no, no entry matches",
+        (None, true) => "no, though one matches",
+        (Some(0), _) => "yes, at the first entry",
+        (Some(_), false) => "yes, at a later entry",
+        (Some(_), true) => "yes, after one in vain",
+    }
+}
+
 fn label_bytes(question: &Question) -> Result<Values, Refusal> {
     let sheet = read_sheet(question)?;
     let document = read_document(question, &sheet)?;
@@ -266,6 +292,13 @@ pub fn kinds_of(letter: u8) -> &'static [&'static str] {
         ],
         b'P' => &["to none", "to some"],
         b'R' => &["no entry matches", "entries match, to none", "to some"],
+        b'W' => &[
+            "no, no entry matches",
+            "no, though one matches",
+            "yes, at the first entry",
+            "yes, at a later entry",
+            "yes, after one in vain",
+        ],
         _ => &["of the sheet", "of the document"],
     }
 }
@@ -316,10 +349,10 @@ mod tests {
         let mut stream = b"G\x01\0\0".to_vec();
         stream.extend([0; 16]);
         stream.extend([2, 0]);
-        stream.extend(b"P\0\0\0\0L\0\0\0\0\0\0\0\0\0\0\0\0x");
+        stream.extend(b"P\0\0\0\0W\0\0\0\0\0\0L\0\0\0\0\0\0\0\0\0\0\0\0x");
         let mut lines = Vec::new();
         answer_stream(&stream, &mut lines).unwrap();
-        let expected = "1 0 0 a5a5\n1 0000000000000000 0 64\n1 -\nunknown\n";
+        let expected = "1 0 0 a5a5\n1 0000000000000000 0 64\n1 0\n1 -\nunknown\n";
         assert_eq!(String::from_utf8(lines).unwrap(), expected);
     }
 }

@@ -8,6 +8,9 @@ use crate::trees::{written, written_table, Entry};
 
 const ROSE_LABELS: [&str; 3] = ["CD", "SONY", "Bach"];
 const ROSE_PATTERNS: [&str; 3] = ["/CD[/SONY][/*/Bach]", "//CD/Bach", "/CD"];
+/// The tables of R for limits 3 and 2, as entries (members, pattern).
+const LIMIT_3: [(u64, &str); 2] = [(2, "//CD/Bach"), (5, "/CD")];
+const LIMIT_2: [(u64, &str); 1] = [(7, "//CD")];
 const ABC: [&str; 3] = ["a", "b", "c"];
 
 /// A question of a name, the line it should have, and the line it has.
@@ -23,6 +26,8 @@ pub fn all() -> Vec<Example> {
     covering_examples(&mut list);
     merging_examples(&mut list);
     building_examples(&mut list);
+    wanting_examples(&mut list);
+    wanting_refused(&mut list);
     printing_examples(&mut list);
     printing_of_little(&mut list);
     limit_examples(&mut list);
@@ -162,7 +167,6 @@ fn merging_examples(list: &mut Vec<Example>) {
     add_merge(list, "9: s0 with s1", &ROSE_LABELS, texts);
 }
 
-/// The table of R for a limit, as entries (members, pattern).
 fn rose_table(entries: &[(u64, &str)]) -> Vec<u8> {
     let entry = |&(members, text): &(u64, &str)| Entry {
         members,
@@ -173,8 +177,8 @@ fn rose_table(entries: &[(u64, &str)]) -> Vec<u8> {
 }
 
 fn building_examples(list: &mut Vec<Example>) {
-    let limit_3 = rose_table(&[(2, "//CD/Bach"), (5, "/CD")]);
-    let limit_2 = rose_table(&[(7, "//CD")]);
+    let limit_3 = rose_table(&LIMIT_3);
+    let limit_2 = rose_table(&LIMIT_2);
     let limit_0 = rose_table(&[(7, ".")]);
     let expected = [(3, &limit_3, 0), (2, &limit_2, 1), (0, &limit_0, 2)];
     for (limit, table, rounds) in expected {
@@ -192,6 +196,46 @@ fn building_examples(list: &mut Vec<Example>) {
     let mut check = question(b'T', &rose());
     check.table = rose_table(&[(2, "//CD/Bach"), (5, "/SONY")]);
     add(list, "a table that is not fair", check, "12");
+}
+
+/// Is it wanted by a subscription of R?
+fn wanting(entries: &[(u64, &str)], document: Vec<u8>) -> Question {
+    let mut wanted = question(b'W', &rose());
+    wanted.table = rose_table(entries);
+    wanted.document = document;
+    wanted
+}
+
+fn wanting_examples(list: &mut Vec<Example>) {
+    add(list, "D1 is wanted", wanting(&LIMIT_3, d1()), "0 1");
+    let vain_first = [(2, "//CD"), (5, "/CD")];
+    let name = "D1 is wanted, after an entry in vain";
+    add(list, name, wanting(&vain_first, d1()), "0 1");
+    // SONY over CD: //CD matches, and all of its members ask for more.
+    let cd_below = document_of(&[], &[(0, 2), (1, 1)]);
+    let name = "only an entry matches";
+    add(list, name, wanting(&LIMIT_2, cd_below), "0 0");
+    let sony = document_of(&[], &[(0, 2)]);
+    add(list, "SONY is not wanted", wanting(&LIMIT_3, sony), "0 0");
+    let mut nobody = question(b'W', &[0, 0]);
+    nobody.table = vec![0];
+    nobody.document = document_of(&[b"CD"], &[(0, 1)]);
+    add(list, "no subscriptions want nothing", nobody, "0 0");
+}
+
+/// The first entry has a member that matches; what is refused stands behind it.
+fn wanting_refused(list: &mut Vec<Example>) {
+    let mut unfair = wanting(&[(5, "/CD"), (2, "/SONY")], d1());
+    add(list, "wanted, but not fair", unfair.clone(), "12 0");
+    unfair.document.pop();
+    add(list, "not fair, and a cut document", unfair, "12 0");
+    let fair = wanting(&[(5, "/CD"), (2, "//CD/Bach")], d1());
+    let mut cut = fair.clone();
+    cut.table.pop();
+    add(list, "wanted, but the table ends", cut, "1 0");
+    let mut remains = fair;
+    remains.document.push(0);
+    add(list, "wanted, but bytes remain", remains, "2 0");
 }
 
 /// What is printed for a limit and a sheet, escaped.

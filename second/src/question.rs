@@ -3,7 +3,7 @@
 use std::fmt::Write;
 
 /// The letters, in the order of docs/ASK.md.
-pub const LETTERS: [u8; 10] = *b"SDTMCGBPRL";
+pub const LETTERS: [u8; 11] = *b"SDTMCGBPRWL";
 
 #[derive(Clone, Copy, PartialEq, Eq, Debug)]
 pub enum Part {
@@ -27,7 +27,7 @@ pub fn parts_of(letter: u8) -> Option<&'static [Part]> {
         b'G' => &[Sheet, Number, Number, Room],
         b'B' => &[Sheet, Limit, Room],
         b'P' => &[Sheet, Document],
-        b'R' => &[Sheet, Table, Document],
+        b'R' | b'W' => &[Sheet, Table, Document],
         b'L' => &[Sheet, Document, Number],
         _ => return None,
     };

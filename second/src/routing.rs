@@ -1,7 +1,7 @@
 //! Routes, and when a table is fair.
 
 use crate::maps::{covers_checked, satisfies_checked};
-use crate::trees::{Document, Entry, Sheet};
+use crate::trees::{Document, Entry, Pattern, Sheet};
 
 /// Bit i is set if subscription i is delivered.
 pub fn plain_route(sheet: &Sheet, document: &Document) -> u64 {
@@ -12,6 +12,12 @@ pub fn plain_route(sheet: &Sheet, document: &Document) -> u64 {
         }
     }
     delivered
+}
+
+/// Does at least one subscription take the document? No table is asked.
+pub fn wanted(sheet: &Sheet, document: &Document) -> bool {
+    let takes = |pattern: &Pattern| satisfies_checked(document, pattern);
+    sheet.patterns.iter().any(takes)
 }
 
 /// What comes of an entry for a document.

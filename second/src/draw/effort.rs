@@ -13,7 +13,7 @@ pub fn of(question: &Question) -> f64 {
         return 0.0;
     };
     match question.letter {
-        b'M' | b'P' | b'R' => 0.01 * of_matching(question, &sheet),
+        b'M' | b'P' | b'R' | b'W' => 0.01 * of_matching(question, &sheet),
         b'G' => 0.25 * of_merge(question, &sheet),
         b'B' => of_build(&sheet, question.limit),
         _ => 0.0,

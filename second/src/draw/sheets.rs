@@ -30,7 +30,7 @@ pub fn size_for(random: &mut Random, letter: u8) -> Size {
     let weights = match letter {
         b'C' | b'G' => [6, 25, 5, 15, 37, 3, 8, 1],
         b'B' => [6, 20, 30, 15, 8, 15, 5, 1],
-        b'T' | b'P' | b'R' => [8, 30, 20, 5, 12, 14, 9, 2],
+        b'T' | b'P' | b'R' | b'W' => [8, 30, 20, 5, 12, 14, 9, 2],
         _ => [10, 45, 10, 5, 12, 6, 10, 2],
     };
     let sizes = [
