@@ -20,8 +20,10 @@ pub fn fair_table(random: &mut Random, sheet: &Sheet) -> Vec<Entry> {
     if random.one_in(3) {
         random.shuffle(&mut entries);
     }
-    if random.one_in(3) && !entries.is_empty() {
-        loosen(random, sheet, &mut entries);
+    match random.below(3) {
+        0 if !entries.is_empty() => loosen(random, sheet, &mut entries),
+        1 => entries.iter_mut().for_each(|entry| widen(random, entry)),
+        _ => {}
     }
     entries
 }
@@ -65,9 +67,7 @@ fn cheap_limit(random: &mut Random, sheet: &Sheet) -> u16 {
 fn loosen(random: &mut Random, sheet: &Sheet, entries: &mut Vec<Entry>) {
     let place = random.below(entries.len());
     if random.one_in(2) {
-        let steps = listed(&entries[place].pattern);
-        entries[place].pattern = planted(&wider(random, &steps));
-        return;
+        return widen(random, &mut entries[place]);
     }
     let member = any_member(random, &entries[place]);
     let pattern = &sheet.patterns[member];
@@ -77,6 +77,12 @@ fn loosen(random: &mut Random, sheet: &Sheet, entries: &mut Vec<Entry>) {
         entries[place].members &= !(1 << member);
         entries.retain(|entry| entry.members != 0);
     }
+}
+
+/// An entry that is wider matches documents that none of its members does.
+fn widen(random: &mut Random, entry: &mut Entry) {
+    let steps = listed(&entry.pattern);
+    entry.pattern = planted(&wider(random, &steps));
 }
 
 fn any_member(random: &mut Random, entry: &Entry) -> usize {
