@@ -18,6 +18,9 @@ pub const CLIPPED_ONLY_BELOW: &str = "clipped only below";
 /// The kind of a build where a cut had several entries to choose from.
 pub const CUTS_AMONG_SEVERAL: &str = "cuts among several";
 
+/// The kind of a yes that comes only from the last subscription that a sheet can have.
+pub const LAST_ALONE: &str = "yes, by number 63 alone";
+
 /// What each lent byte holds before the call.
 const AS_FOUND: u8 = 0xa5;
 
@@ -238,8 +241,13 @@ fn is_wanted(question: &Question) -> Result<Values, Refusal> {
     let route = table_route(&sheet, &entries, &document);
     // Yes is a route that is not 0.
     assert_eq!(yes, route.delivered != 0);
+    let kind = if route.delivered == 1 << 63 {
+        LAST_ALONE
+    } else {
+        way_to_first(&route.found)
+    };
     let Values(value, _) = yes_or_no(yes);
-    Ok(Values(value, way_to_first(&route.found)))
+    Ok(Values(value, kind))
 }
 
 /// What stands before the first entry that has a member which matches.
@@ -298,6 +306,7 @@ pub fn kinds_of(letter: u8) -> &'static [&'static str] {
             "yes, at the first entry",
             "yes, at a later entry",
             "yes, after one in vain",
+            LAST_ALONE,
         ],
         _ => &["of the sheet", "of the document"],
     }

@@ -2,7 +2,7 @@
 
 use super::documents::document;
 use super::fields::{joined, of_document, of_sheet, of_table};
-use super::sheets::{sheet, Size};
+use super::sheets::{leave_one, sheet, Size};
 use super::tables::{any_limit, fair_table};
 use crate::building::build;
 use crate::merging::merge;
@@ -37,6 +37,10 @@ pub fn draft(random: &mut Random, letter: u8, size: Size) -> Draft {
     };
     if has(Part::Document) {
         draft.document = document(random, &draft.sheet);
+    }
+    // Where one is enough, every other hides a member that is forgotten.
+    if letter == b'W' && random.one_in(2) {
+        leave_one(random, &mut draft.sheet, &draft.document);
     }
     if has(Part::Table) {
         draft.table = fair_table(random, &draft.sheet);

@@ -5,7 +5,10 @@ use crate::building::{settled, steps_together};
 use crate::covering::fits;
 use crate::question::Question;
 use crate::reading;
-use crate::trees::{size, strictly_below, Branch, Document, Entry, Sheet};
+use crate::trees::{size, strictly_below, Branch, Document, Entry, Pattern, Sheet};
+
+/// Microseconds that may go into making a part of a question.
+pub const MOST_IN_MAKING: f64 = 3_000.0;
 
 /// Roughly the microseconds that a question takes at most, and 0 for those that are quick.
 pub fn of(question: &Question) -> f64 {
@@ -13,22 +16,19 @@ pub fn of(question: &Question) -> f64 {
         return 0.0;
     };
     match question.letter {
-        b'M' | b'P' | b'R' | b'W' => 0.01 * of_matching(question, &sheet),
+        b'M' | b'P' | b'R' | b'W' => of_matching(question, &sheet),
         b'G' => 0.25 * of_merge(question, &sheet),
         b'B' => of_build(&sheet, question.limit),
         _ => 0.0,
     }
 }
 
-/// Counted in nodes visited.
+/// Every subscription is asked, and every entry.
 fn of_matching(question: &Question, sheet: &Sheet) -> f64 {
     let Ok(document) = reading::document(&question.document, sheet) else {
         return 0.0;
     };
-    let mut effort = 0.0;
-    for pattern in &sheet.patterns {
-        effort += of_satisfying(&document, pattern);
-    }
+    let mut effort = of_plain_route(sheet, &document);
     let entries: Vec<Entry> = reading::table(&question.table, sheet).unwrap_or_default();
     for entry in entries {
         effort += of_satisfying(&document, &entry.pattern);
@@ -36,10 +36,16 @@ fn of_matching(question: &Question, sheet: &Sheet) -> f64 {
     effort
 }
 
+pub fn of_plain_route(sheet: &Sheet, document: &Document) -> f64 {
+    let of_one = |pattern: &Pattern| of_satisfying(document, pattern);
+    sheet.patterns.iter().map(of_one).sum()
+}
+
+/// Counted in nodes visited.
 fn of_satisfying(document: &Document, pattern: &[Branch]) -> f64 {
     let children = document.children();
     let visits = |step| visits_below(document, &children, step)[0];
-    pattern.iter().map(visits).sum()
+    0.01 * pattern.iter().map(visits).sum::<f64>()
 }
 
 /// For the top and every node: the visits it takes at most to see that the step fails below it.

@@ -6,7 +6,7 @@ use super::effort;
 use super::sheets::{size_for, Size};
 use super::tables::make_unfair;
 use crate::answers::{answer, kinds_of, Answer, Outcome};
-use crate::answers::{CLIPPED_ONLY_BELOW, CUTS_AMONG_SEVERAL};
+use crate::answers::{CLIPPED_ONLY_BELOW, CUTS_AMONG_SEVERAL, LAST_ALONE};
 use crate::numbers::{Judged, Refusal, UNFAIR};
 use crate::question::{Part, Question, LETTERS};
 use crate::random::Random;
@@ -104,6 +104,7 @@ impl Draw {
         for _ in 1..MOST_TRIES {
             let size = match kind {
                 CUTS_AMONG_SEVERAL | CLIPPED_ONLY_BELOW => Size::Tangled,
+                LAST_ALONE => Size::Many,
                 _ => size_for(&mut self.random, letter),
             };
             let (question, answer) = self.sound(letter, size);

@@ -1,9 +1,11 @@
 //! Sheets of several sizes.
 
+use super::effort::{of_plain_route, MOST_IN_MAKING};
 use super::label_names::new_labels;
 use super::patterns::{narrower, pattern, wider, Style};
 use crate::random::Random;
-use crate::trees::{planted, Sheet, Step};
+use crate::satisfying::satisfies;
+use crate::trees::{planted, Document, Sheet, Step};
 
 #[derive(Clone, Copy, PartialEq, Eq, Debug)]
 pub enum Size {
@@ -144,6 +146,29 @@ fn step_count(random: &mut Random, size: Size) -> usize {
         Size::Many => random.between(3, 6),
         Size::Full => 16,
     }
+}
+
+/// Of the patterns that the document satisfies, one is left, often the last on the sheet;
+/// the others become copies of ones that it doesn't.
+pub fn leave_one(random: &mut Random, sheet: &mut Sheet, document: &Document) {
+    if of_plain_route(sheet, document) > MOST_IN_MAKING {
+        return;
+    }
+    let all = 0..sheet.patterns.len();
+    let (takers, others): (Vec<usize>, Vec<usize>) =
+        all.partition(|&i| satisfies(document, &sheet.patterns[i]));
+    if takers.is_empty() || others.is_empty() {
+        return;
+    }
+    let left = random.pick(&takers);
+    for taker in takers {
+        if taker != left {
+            sheet.patterns[taker] = sheet.patterns[random.pick(&others)].clone();
+        }
+    }
+    let last = sheet.patterns.len() - 1;
+    let place = random.pick(&[0, last, last, left]);
+    sheet.patterns.swap(left, place);
 }
 
 /// 255 labels of 60 bytes.

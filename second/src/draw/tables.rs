@@ -1,15 +1,12 @@
 //! Tables: fair ones of several kinds, and ways to make them unfair.
 
-use super::effort::of_build;
+use super::effort::{of_build, MOST_IN_MAKING};
 use super::patterns::{narrower, wider};
 use crate::building::{build, one_for_each, settled, steps_together};
 use crate::covering::covers;
 use crate::random::Random;
 use crate::routing::has_member;
 use crate::trees::{listed, planted, Entry, Sheet};
-
-/// Microseconds that the build of a table may take.
-const MOST_EFFORT: f64 = 3_000.0;
 
 pub fn fair_table(random: &mut Random, sheet: &Sheet) -> Vec<Entry> {
     let mut entries = match random.below(6) {
@@ -57,7 +54,7 @@ pub fn any_limit(random: &mut Random, sheet: &Sheet) -> u16 {
 /// A limit for which the build takes no long time.
 fn cheap_limit(random: &mut Random, sheet: &Sheet) -> u16 {
     let limit = any_limit(random, sheet);
-    if of_build(sheet, limit) > MOST_EFFORT {
+    if of_build(sheet, limit) > MOST_IN_MAKING {
         return u16::MAX;
     }
     limit
