@@ -1,4 +1,4 @@
-/* The hub's calls for C: is a sheet sound, and which sheds get the notice of a document.
+/* The hub's calls for C: is a sheet sound, which sheds get the notice of a document, and does at least one get it.
  *
  * `rt staticlib hub_c` writes the library, target/staticlib/libhub_c.a, for x86-64 Linux. Every call is proved to give
  * what is said here for any bytes at all: none of them needs to be checked first.
@@ -13,16 +13,19 @@
  *         if (a.delivered >> shed & 1)
  *             print_notice(shed);
  *
+ * Where it only matters whether any shed gets the notice, hub_wanted takes the same bytes and ends at the first one.
+ *
  * Bytes are passed as a pointer and how many there are. The pointer is never null, also where there are none, and the
  * bytes stay as they are during the call. They are only read, and nothing is kept after the call, so calls may be made
  * from several threads at once.
  *
- * Nothing is allocated. A call takes stack: hub_sheet_check under 1 KB, hub_plain_route under 20 KB, hub_table_route under
- * 40 KB. These are measured on the deepest inputs, not proved; `bench/run` prints them.
+ * Nothing is allocated. A call takes stack: hub_sheet_check under 1 KB, hub_plain_route under 20 KB, hub_table_route
+ * and hub_wanted under 40 KB. These are measured on the deepest inputs, not proved; `bench/run` prints them.
  */
 #ifndef HUB_H
 #define HUB_H
 
+#include <stdbool.h>
 #include <stddef.h>
 #include <stdint.h>
 
@@ -66,6 +69,12 @@ typedef struct {
     uint64_t tried;
 } hub_table_answer;
 
+/* Whether at least one shed gets the notice. */
+typedef struct {
+    uint8_t number;
+    bool wanted;
+} hub_wanted_answer;
+
 /* Is the sheet sound? */
 uint8_t hub_sheet_check(const uint8_t *sheet, size_t sheet_length);
 
@@ -77,6 +86,12 @@ hub_plain_answer hub_plain_route(const uint8_t *sheet, size_t sheet_length,
 hub_table_answer hub_table_route(const uint8_t *sheet, size_t sheet_length,
                                  const uint8_t *table, size_t table_length,
                                  const uint8_t *document, size_t document_length);
+
+/* Does at least one shed get it? `wanted` is true exactly where hub_table_route delivers to a shed, and the refusals
+ * are the same. Entries and members are asked in the same order, and nothing after the first member that matches. */
+hub_wanted_answer hub_wanted(const uint8_t *sheet, size_t sheet_length,
+                             const uint8_t *table, size_t table_length,
+                             const uint8_t *document, size_t document_length);
 
 #ifdef __cplusplus
 }
