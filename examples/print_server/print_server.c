@@ -1,13 +1,15 @@
-/* print_server SHEET TABLE DOCUMENT   prints the sheds that get the notice of the document, one on each line, and then
- *                                     how many patterns were tried
- * print_server SHEET DOCUMENT         prints the same sheds, without a table
- * print_server SHEET                  only checks the sheet
+/* print_server SHEET TABLE DOCUMENT            prints the sheds that get the notice of the document, one on each line,
+ *                                              and then how many patterns were tried
+ * print_server SHEET DOCUMENT                  prints the same sheds, without a table
+ * print_server SHEET                           only checks the sheet
+ * print_server --wanted SHEET TABLE DOCUMENT   prints `wanted` if at least one shed gets the notice, else `not wanted`
  *
- * The arguments are files. Status 0: done; 1: the hub refused the files, and standard error says why; 2: the files could
- * not be read, or there are too few or too many. */
+ * The other arguments are files. Status 0: done; 1: the hub refused the files, and standard error says why; 2: the files
+ * could not be read, there are too few or too many, or there is no such option. */
 #include "hub.h"
 
 #include <stdio.h>
+#include <string.h>
 
 /* More than any sound file has. */
 #define MOST 65536
@@ -93,24 +95,46 @@ static int route_by_table(const struct bytes *s, const struct bytes *t, const st
     return 0;
 }
 
-int main(int count, char **arguments)
+static int ask_wanted(const struct bytes *s, const struct bytes *t, const struct bytes *d)
 {
-    static struct bytes files[3];
+    hub_wanted_answer answer = hub_wanted(s->at, s->length, t->at, t->length, d->at, d->length);
+    if (answer.number != HUB_DONE)
+        return refused(answer.number);
+    puts(answer.wanted ? "wanted" : "not wanted");
+    return 0;
+}
 
-    if (count < 2 || count > 4) {
-        fprintf(stderr, "usage: print_server SHEET [[TABLE] DOCUMENT]\n");
-        return 2;
-    }
-    for (int i = 1; i < count; i++)
-        if (!read_file(arguments[i], &files[i - 1]))
-            return 2;
-
+/* What is done with the files where there is no option. */
+static int check_or_route(const struct bytes *files, int count)
+{
     switch (count) {
-    case 2:
+    case 1:
         return check(&files[0]);
-    case 3:
+    case 2:
         return route_plainly(&files[0], &files[1]);
     default:
         return route_by_table(&files[0], &files[1], &files[2]);
     }
+}
+
+static int usage(void)
+{
+    fprintf(stderr, "usage: print_server SHEET [[TABLE] DOCUMENT]\n"
+                    "       print_server --wanted SHEET TABLE DOCUMENT\n");
+    return 2;
+}
+
+int main(int count, char **arguments)
+{
+    static struct bytes files[3];
+    bool wanted = count > 1 && strcmp(arguments[1], "--wanted") == 0;
+    char **paths = arguments + (wanted ? 2 : 1);
+    int path_count = count - (wanted ? 2 : 1);
+
+    if (path_count < (wanted ? 3 : 1) || path_count > 3 || paths[0][0] == '-')
+        return usage();
+    for (int i = 0; i < path_count; i++)
+        if (!read_file(paths[i], &files[i]))
+            return 2;
+    return wanted ? ask_wanted(&files[0], &files[1], &files[2]) : check_or_route(files, path_count);
 }
