@@ -1,20 +1,16 @@
 // What is asked and timed.
 #include "cases.h"
-#include "by_hand.h"
 #include "inputs.h"
+#include "tables.h"
 
-enum { MOST_SECTIONS = 24, MOST_CASES = 160, MOST_QUESTIONS = 4096, MOST_RARES = 8, MOST_TABLES = 32 };
+enum { MOST_SECTIONS = 24, MOST_CASES = 160, MOST_QUESTIONS = 4096 };
 
 Section sections[MOST_SECTIONS];
 unsigned section_count;
-Rare rares[MOST_RARES];
-unsigned rare_count;
 
 static Case cases[MOST_CASES];
-static Question questions[MOST_QUESTIONS], builds[MOST_TABLES];
+static Question questions[MOST_QUESTIONS];
 static unsigned case_count, question_count;
-
-Case tables = {"the tables that are routed by", 0, builds};
 
 static const Shape bushy = {16, 50, 25, false};
 static const Shape far_chain = {16, 100, 25, true};
@@ -52,23 +48,6 @@ static void add_question(Case *to, Question question)
 }
 
 // ---- routes
-
-// The table that a sheet gets for a limit.
-static Part built_table(Part sheet, uint16_t limit)
-{
-    if (tables.count == MOST_TABLES) {
-        printf("cases.c has no room for another table\n");
-        exit(2);
-    }
-    Question *build = &builds[tables.count++];
-    *build = (Question){BUILD, .sheet = sheet, .limit = limit};
-    Answer answer;
-    ask_afresh(&answer, &sides[0], build);
-    begin_part();
-    for (size_t i = 0; i < answer.length; i++)
-        put(answer.out[i]);
-    return end_part();
-}
 
 // One case of a route over some documents. The table, where there is one, has half of the steps.
 static void add_route(Call call, Case *to, unsigned nodes, unsigned subscriptions, Shape shape)
@@ -200,41 +179,6 @@ static void add_building(void)
     }
 }
 
-// ---- documents of which few match
-
-static void add_rare(Part sheet, Part table, unsigned nodes)
-{
-    enum { RARE_DOCUMENTS = 32 };
-    if (rare_count == MOST_RARES || question_count + 2 * RARE_DOCUMENTS > MOST_QUESTIONS) {
-        printf("cases.c has no room for more rare documents\n");
-        exit(2);
-    }
-    Rare *rare = &rares[rare_count++];
-    *rare = (Rare){.nodes = nodes, .entries = table.at[0]};
-    rare->plain.questions = questions + question_count;
-    rare->table.questions = rare->plain.questions + RARE_DOCUMENTS;
-    rare->plain.count = rare->table.count = RARE_DOCUMENTS;
-    snprintf(rare->plain.name, sizeof rare->plain.name, "plain route, %u nodes", nodes);
-    snprintf(rare->table.name, sizeof rare->table.name, "table route, %u nodes", nodes);
-    question_count += 2 * RARE_DOCUMENTS;
-    for (unsigned i = 0; i < RARE_DOCUMENTS; i++) {
-        Part document = family_document(nodes);
-        rare->plain.questions[i] = (Question){PLAIN_ROUTE, sheet, {NULL, 0}, document, 0, 0, 0};
-        rare->table.questions[i] = (Question){TABLE_ROUTE, sheet, table, document, 0, 0, 0};
-    }
-}
-
-static void add_rares(void)
-{
-    static const uint16_t limits[] = {128, 16};
-    Part sheet = family_sheet(8);
-    for (unsigned i = 0; i < 2; i++) {
-        Part table = built_table(sheet, limits[i]);
-        for (unsigned nodes = 16; nodes <= 1024; nodes *= 8)
-            add_rare(sheet, table, nodes);
-    }
-}
-
 void make_cases(void)
 {
     start_random(1);
@@ -250,5 +194,4 @@ void make_cases(void)
     add_covering_growth();
     add_merging_growth("Merging random bushy patterns against steps", bushy);
     add_merging_growth("Merging chains of far steps against steps", far_chain);
-    add_rares();
 }

@@ -19,20 +19,8 @@ typedef struct {
     Case *cases;
 } Section;
 
-// Documents of which few match: the same documents by the plain route and by the table route.
-typedef struct {
-    unsigned nodes, entries;
-    Case plain, table;
-} Rare;
-
 extern Section sections[];
 extern unsigned section_count;
-extern Rare rares[];
-extern unsigned rare_count;
-
-// The builds that the table routes need: compared, and not timed. A build at limit 0 always ends in one entry without
-// steps, and its bytes tell little.
-extern Case tables;
 
 void make_cases(void);
 

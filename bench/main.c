@@ -3,6 +3,7 @@
 #include "examples.h"
 #include "report.h"
 #include "stack.h"
+#include "tables.h"
 
 static void check_examples(void)
 {
@@ -54,9 +55,18 @@ static void check_question(const char *of, const Question *question)
 static void check_case(const char *title, const Case *of)
 {
     for (unsigned i = 0; i < of->count; i++) {
-        char name[160];
-        snprintf(name, sizeof name, "%s, %s, question %u", title, of->name, i + 1);
-        check_question(name, &of->questions[i]);
+        const Question *question = &of->questions[i];
+        char name[200];
+        snprintf(name, sizeof name, "%s, %s, question %u to %s", title, of->name, i + 1, call_names[question->call]);
+        check_question(name, question);
+    }
+}
+
+static void check_pairs(const Pairs *pairs)
+{
+    for (unsigned i = 0; i < pairs->count; i++) {
+        check_case(pairs->title, &pairs->of[i].first);
+        check_case(pairs->title, &pairs->of[i].second);
     }
 }
 
@@ -66,10 +76,7 @@ static void check_cases(void)
     for (unsigned i = 0; i < section_count; i++)
         for (unsigned j = 0; j < sections[i].count; j++)
             check_case(sections[i].title, &sections[i].cases[j]);
-    for (unsigned i = 0; i < rare_count; i++) {
-        check_case("Few match", &rares[i].plain);
-        check_case("Few match", &rares[i].table);
-    }
+    check_pairs(&rares);
     check_case("Building", &tables);
     if (wrong == 0)
         return;
@@ -90,6 +97,7 @@ int main(int count, char **words)
 {
     check_examples();
     make_cases();
+    make_pairs();
     check_cases();
     if (count == 2 && strcmp(words[1], "--compare") == 0)
         printf("bench: %u answers agree\n", checked);

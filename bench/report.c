@@ -14,10 +14,15 @@ static void add_head(Heads *heads, const char *head)
     heads->of[heads->count++] = head;
 }
 
+static void print_name(const char *name)
+{
+    printf("| %-*s |", NAME_WIDTH, name);
+}
+
 static void print_heads(const char *title, const Heads *heads)
 {
     printf("\n### %s\n\n", title);
-    printf("| %-*s |", NAME_WIDTH, heads->of[0]);
+    print_name(heads->of[0]);
     for (unsigned i = 1; i < heads->count; i++)
         printf(" %s |", heads->of[i]);
     printf("\n|---|");
@@ -78,17 +83,42 @@ void report_section(const Section *section)
     print_heads(section->title, &heads);
     for (unsigned i = 0; i < section->count; i++) {
         times = time_case(&section->cases[i]);
-        printf("| %-*s |", NAME_WIDTH, section->cases[i].name);
+        print_name(section->cases[i].name);
         print_times(section, &times, i == 0 ? NULL : &above);
         above = times;
+    }
+}
+
+// ---- the same documents by two calls
+
+// The heads above the times of the two calls and above what the second's are to the first's; the first tells the sides
+// apart.
+typedef struct {
+    const char *first[MOST_SIDES], *second, *ratio;
+} PairHeads;
+
+static void add_pair_heads(Heads *heads, const PairHeads *of)
+{
+    for (unsigned s = 0; s < side_count; s++) {
+        add_head(heads, of->first[s]);
+        add_head(heads, of->second);
+        add_head(heads, of->ratio);
+    }
+}
+
+static void print_pair(const PairHeads *heads, const Times *first, const Times *second)
+{
+    for (unsigned s = 0; s < side_count; s++) {
+        print_number(heads->first[s], 0, first->of[s]);
+        print_number(heads->second, 0, second->of[s]);
+        print_number(heads->ratio, 2, second->of[s] / first->of[s]);
     }
 }
 
 // ---- documents of which few match
 
 static const char matching[] = "match, %", trying[] = "tried of 64", sparing[] = "spared, %";
-static const char *const plain_head[MOST_SIDES] = {"by hand: plain, ns", "proved: plain, ns"};
-static const char table_head[] = "table, ns", table_ratio[] = "table to plain";
+static const PairHeads rare_times = {{"by hand: plain, ns", "proved: plain, ns"}, "table, ns", "table to plain"};
 
 static Heads rare_heads(void)
 {
@@ -97,11 +127,7 @@ static Heads rare_heads(void)
     add_head(&heads, matching);
     add_head(&heads, trying);
     add_head(&heads, sparing);
-    for (unsigned s = 0; s < side_count; s++) {
-        add_head(&heads, plain_head[s]);
-        add_head(&heads, table_head);
-        add_head(&heads, table_ratio);
-    }
+    add_pair_heads(&heads, &rare_times);
     return heads;
 }
 
@@ -123,18 +149,13 @@ static void print_tries(const Case *table)
 void report_rares(void)
 {
     Heads heads = rare_heads();
-    print_heads("Documents of which few match: tries spared, and the table route to the plain route", &heads);
-    for (unsigned i = 0; i < rare_count; i++) {
-        char name[48];
-        snprintf(name, sizeof name, "%u entries, %u nodes", rares[i].entries, rares[i].nodes);
-        printf("| %-*s |", NAME_WIDTH, name);
-        print_tries(&rares[i].table);
-        Times plain = time_case(&rares[i].plain), table = time_case(&rares[i].table);
-        for (unsigned s = 0; s < side_count; s++) {
-            print_number(plain_head[s], 0, plain.of[s]);
-            print_number(table_head, 0, table.of[s]);
-            print_number(table_ratio, 2, table.of[s] / plain.of[s]);
-        }
+    print_heads(rares.title, &heads);
+    for (unsigned i = 0; i < rares.count; i++) {
+        const Pair *rare = &rares.of[i];
+        Times plain = time_case(&rare->first), table = time_case(&rare->second);
+        print_name(rare->first.name);
+        print_tries(&rare->second);
+        print_pair(&rare_times, &plain, &table);
         printf("\n");
     }
 }

@@ -2,6 +2,7 @@
 #ifndef REPORT_H
 #define REPORT_H
 
+#include "pairs.h"
 #include "timing.h"
 
 void report_section(const Section *section);

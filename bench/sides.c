@@ -10,6 +10,15 @@ const Side sides[] = {
 };
 const unsigned side_count = sizeof sides / sizeof sides[0];
 
+const char *const call_names[] = {
+    [SHEET_CHECK] = "sheet check",
+    [PLAIN_ROUTE] = "plain route",
+    [TABLE_ROUTE] = "table route",
+    [COVERS] = "covering",
+    [MERGE] = "merging",
+    [BUILD] = "building",
+};
+
 static void ask_route(Answer *answer, const Side *side, const Question *q)
 {
     if (q->call == PLAIN_ROUTE) {

@@ -20,8 +20,9 @@ extern const Side sides[];
 extern const unsigned side_count;
 
 typedef enum { SHEET_CHECK, PLAIN_ROUTE, TABLE_ROUTE, COVERS, MERGE, BUILD } Call;
+extern const char *const call_names[];
 
-// What a call does not take is left 0.
+// What a call does not take is not looked at.
 typedef struct {
     Call call;
     Part sheet, table, document;

@@ -50,14 +50,13 @@ static Question deepest(Call call)
 
 void report_stack(void)
 {
-    static const char *const names[] = {"sheet check", "plain route", "table route", "covering", "merging", "building"};
     printf("\n### Stack for one call: 64 chains of 16 far steps, 1,024 nodes\n\n| call        |");
     for (unsigned s = 0; s < side_count; s++)
         printf(" %7s, bytes |", sides[s].name);
     printf("\n|---|%s\n", side_count > 1 ? "---:|---:|" : "---:|");
     for (Call call = SHEET_CHECK; call <= BUILD; call++) {
         Question question = deepest(call);
-        printf("| %-11s |", names[call]);
+        printf("| %-11s |", call_names[call]);
         for (unsigned s = 0; s < side_count; s++)
             printf(" %14zu |", stack_of(&sides[s], &question));
         printf("\n");
