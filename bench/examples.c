@@ -36,11 +36,25 @@ static void expect_plain(const char *name, Part sheet, Part document, uint8_t nu
     expect(name, answer.number == number && answer.value == delivered);
 }
 
-static void expect_table(const char *name, Part sheet, Part table, Part document, Tabled wanted)
+static void expect_table(const char *name, Part sheet, Part table, Part document, Tabled given)
 {
     Answer answer;
     ask_afresh(&answer, side, &(Question){TABLE_ROUTE, .sheet = sheet, .table = table, .document = document});
-    expect(name, answer.number == wanted.number && answer.value == wanted.delivered && answer.count == wanted.tried);
+    expect(name, answer.number == given.number && answer.value == given.delivered && answer.count == given.tried);
+}
+
+static void expect_wanted(const char *name, Part sheet, Part table, Part document, Asked given)
+{
+    Answer answer;
+    ask_afresh(&answer, side, &(Question){WANTED, .sheet = sheet, .table = table, .document = document});
+    expect(name, answer.number == given.number && answer.value == given.said);
+}
+
+// Both calls that take a table refuse alike.
+static void expect_refused(const char *name, Part sheet, Part table, Part document, uint8_t number)
+{
+    expect_table(name, sheet, table, document, (Tabled){number, 0, 0});
+    expect_wanted(name, sheet, table, document, (Asked){number, false});
 }
 
 // Does the first pattern cover the second?
@@ -231,25 +245,22 @@ static void document_numbers(void)
     expect_plain("the sheet comes first", bytes_of("00 41"), bytes_of("00 00 00"), 5, 0);
 }
 
-static Tabled refused(uint8_t number)
-{
-    return (Tabled){number, 0, 0};
-}
-
 static void table_numbers(Part rose)
 {
-    Part document = rose_document(), bad = bytes_of("00 00 00");
+    Part document = rose_document(), bad = bytes_of("00 00 00"), all = table_of(rose_labels, "7 .");
     Part longer = bytes_of("01 07 00 00 00 00 00 00 00 01 00 00 01 00");
-    expect_table("/CD for all", rose, table_of(rose_labels, "7 /CD"), document, refused(12));
-    expect_table("/CD for all, and a byte more", rose, longer, document, refused(2));
-    expect_table("12 before the document", rose, table_of(rose_labels, "7 /CD"), bad, refused(12));
-    expect_table("the document after", rose, table_of(rose_labels, "7 ."), bad, refused(5));
-    expect_table("a subscription missing", rose, table_of(rose_labels, "3 ."), document, refused(12));
-    expect_table("a subscription twice", rose, table_of(rose_labels, "7 . 1 ."), document, refused(12));
-    expect_table("a member outside the sheet", rose, table_of(rose_labels, "15 ."), document, refused(12));
-    expect_table("an entry without members", rose, table_of(rose_labels, "7 . 0 ."), document, refused(12));
-    expect_table("half of the members", rose, bytes_of("01 07 00 00 00"), document, refused(1));
-    expect_table("65 entries", rose, bytes_of("41"), document, refused(5));
+    expect_refused("/CD for all", rose, table_of(rose_labels, "7 /CD"), document, 12);
+    expect_refused("/CD for all, and a byte more", rose, longer, document, 2);
+    expect_refused("12 before the document", rose, table_of(rose_labels, "7 /CD"), bad, 12);
+    expect_refused("the document after", rose, all, bad, 5);
+    expect_refused("to the document's end", rose, all, bytes_of("00 01 00 00 00 01 00"), 2);
+    expect_refused("the sheet before the table", bytes_of("00 41"), bytes_of(""), document, 5);
+    expect_refused("a subscription missing", rose, table_of(rose_labels, "3 ."), document, 12);
+    expect_refused("a subscription twice", rose, table_of(rose_labels, "7 . 1 ."), document, 12);
+    expect_refused("a member outside the sheet", rose, table_of(rose_labels, "15 ."), document, 12);
+    expect_refused("an entry without members", rose, table_of(rose_labels, "7 . 0 ."), document, 12);
+    expect_refused("half of the members", rose, bytes_of("01 07 00 00 00"), document, 1);
+    expect_refused("65 entries", rose, bytes_of("41"), document, 5);
 }
 
 static void asked_for(Part rose)
@@ -265,6 +276,24 @@ static void asked_for(Part rose)
     Built built = side->build(rose.at, rose.length, 3, small, 3);
     expect("build: too little room", built.number == 10 && built.rounds == 0 && built.length == 0);
     expect("too little room, and the bytes as found", small[0] == 7 && small[1] == 8 && small[2] == 9);
+}
+
+// ---- is it wanted
+
+static void wanted_or_not(Part rose)
+{
+    Part two = table_of(rose_labels, "2 //CD/Bach 5 /CD"), one = table_of(rose_labels, "7 //CD");
+    Part below_sony = document_of("", "0 2 1 1");
+    Asked yes = {0, true}, no = {0, false};
+    expect_wanted("D1 by the table of limit 3", rose, two, rose_document(), yes);
+    expect_wanted("D1 by the table of limit 2", rose, one, rose_document(), yes);
+    expect_wanted("no entry matches", rose, two, document_of("", "0 2"), no);
+    expect_table("an entry matches, and no member: 4 tried", rose, one, below_sony, (Tabled){0, 0, 4});
+    expect_wanted("an entry alone decides nothing", rose, one, below_sony, no);
+    Part sheet = sheet_of("a b c d", "/a/b /a/c //d"), table = table_of("a b c d", "3 /a/* 4 //d");
+    expect_wanted("the entry's last member", sheet, table, document_of("", "0 1 1 3"), yes);
+    expect_wanted("after an entry alone, a member of the next", sheet, table, document_of("", "0 1 1 4"), yes);
+    expect_wanted("a sheet without subscriptions", sheet_of("", ""), table_of("", ""), document_of("x", "0 1"), no);
 }
 
 // ---- what an easy misreading would get wrong
@@ -305,6 +334,7 @@ unsigned failed_examples(const Side *of, unsigned *count)
     document_numbers();
     table_numbers(rose);
     asked_for(rose);
+    wanted_or_not(rose);
     told_apart();
     *count = asked;
     return failed;

@@ -34,6 +34,8 @@ uint8_t hub_sheet_check(const uint8_t *sheet, size_t sheet_length);
 Routed hub_plain_route(const uint8_t *sheet, size_t sheet_length, const uint8_t *document, size_t document_length);
 Tabled hub_table_route(const uint8_t *sheet, size_t sheet_length, const uint8_t *table, size_t table_length,
                        const uint8_t *document, size_t document_length);
+Asked hub_wanted(const uint8_t *sheet, size_t sheet_length, const uint8_t *table, size_t table_length,
+                 const uint8_t *document, size_t document_length);
 Asked bench_covers(const uint8_t *sheet, size_t sheet_length, uint64_t i, uint64_t j);
 Merged bench_merge(const uint8_t *sheet, size_t sheet_length, uint64_t i, uint64_t j, uint8_t *out, size_t out_length);
 Built bench_build(const uint8_t *sheet, size_t sheet_length, uint16_t limit, uint8_t *out, size_t out_length);

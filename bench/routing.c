@@ -1,4 +1,4 @@
-// Routing, plain and by a table.
+// Routing, plain and by a table, and whether a notice is wanted at all.
 #include "by_hand.h"
 
 // Do the entries share out the subscriptions, with none left empty, and none given what it does not cover?
@@ -37,6 +37,26 @@ Routed hand_plain_route(const uint8_t *sheet_bytes, size_t sheet_length, const u
     return (Routed){DONE, delivered};
 }
 
+// What a notice is routed by a table with, once all of it is judged.
+typedef struct {
+    Sheet sheet;
+    Table table;
+    Document document;
+} Judged;
+
+static uint8_t judge(Judged *judged, const uint8_t *sheet_bytes, size_t sheet_length, const uint8_t *table_bytes,
+                     size_t table_length, const uint8_t *document_bytes, size_t document_length)
+{
+    uint8_t number = read_sheet(&judged->sheet, sheet_bytes, sheet_length);
+    if (number == DONE)
+        number = read_table(&judged->table, &judged->sheet, table_bytes, table_length);
+    if (number == DONE && !is_fair(&judged->table, &judged->sheet))
+        number = NOT_FAIR;
+    if (number == DONE)
+        number = read_document(&judged->document, &judged->sheet, document_bytes, document_length);
+    return number;
+}
+
 // One try.
 static bool try_pattern(const Document *document, const Pattern *pattern, uint64_t *tried)
 {
@@ -44,34 +64,42 @@ static bool try_pattern(const Document *document, const Pattern *pattern, uint64
     return satisfies(document, pattern);
 }
 
-static Tabled route(const Sheet *sheet, const Table *table, const Document *document)
+// To every shed that gets the notice; or to the first of them, and nothing is tried after it.
+static Tabled route(const Judged *judged, bool first_only)
 {
     Tabled routed = {DONE, 0, 0};
-    for (unsigned e = 0; e < table->count; e++) {
-        if (!try_pattern(document, &table->entries[e].pattern, &routed.tried))
+    for (unsigned e = 0; e < judged->table.count; e++) {
+        const Entry *entry = &judged->table.entries[e];
+        if (!try_pattern(&judged->document, &entry->pattern, &routed.tried))
             continue;
-        for (uint64_t rest = table->entries[e].members; rest != 0; rest &= rest - 1) {
+        for (uint64_t rest = entry->members; rest != 0; rest &= rest - 1) {
             unsigned i = (unsigned)__builtin_ctzll(rest);
-            routed.delivered |= (uint64_t)try_pattern(document, &sheet->patterns[i], &routed.tried) << i;
+            if (!try_pattern(&judged->document, &judged->sheet.patterns[i], &routed.tried))
+                continue;
+            routed.delivered |= (uint64_t)1 << i;
+            if (first_only)
+                return routed;
         }
     }
     return routed;
 }
 
-Tabled hand_table_route(const uint8_t *sheet_bytes, size_t sheet_length, const uint8_t *table_bytes,
-                        size_t table_length, const uint8_t *document_bytes, size_t document_length)
+Tabled hand_table_route(const uint8_t *sheet, size_t sheet_length, const uint8_t *table, size_t table_length,
+                        const uint8_t *document, size_t document_length)
 {
-    Sheet sheet;
-    Table table;
-    Document document;
-    uint8_t number = read_sheet(&sheet, sheet_bytes, sheet_length);
-    if (number == DONE)
-        number = read_table(&table, &sheet, table_bytes, table_length);
-    if (number == DONE && !is_fair(&table, &sheet))
-        number = NOT_FAIR;
-    if (number == DONE)
-        number = read_document(&document, &sheet, document_bytes, document_length);
+    Judged judged;
+    uint8_t number = judge(&judged, sheet, sheet_length, table, table_length, document, document_length);
     if (number != DONE)
         return (Tabled){number, 0, 0};
-    return route(&sheet, &table, &document);
+    return route(&judged, false);
+}
+
+Asked hand_wanted(const uint8_t *sheet, size_t sheet_length, const uint8_t *table, size_t table_length,
+                  const uint8_t *document, size_t document_length)
+{
+    Judged judged;
+    uint8_t number = judge(&judged, sheet, sheet_length, table, table_length, document, document_length);
+    if (number != DONE)
+        return (Asked){number, false};
+    return (Asked){DONE, route(&judged, true).delivered != 0};
 }

@@ -3,9 +3,9 @@
 #include "by_hand.h"
 
 const Side sides[] = {
-    {"by hand", hand_sheet_check, hand_plain_route, hand_table_route, hand_covers, hand_merge, hand_build},
+    {"by hand", hand_sheet_check, hand_plain_route, hand_table_route, hand_wanted, hand_covers, hand_merge, hand_build},
 #ifndef BY_HAND_ONLY
-    {"proved", hub_sheet_check, hub_plain_route, hub_table_route, bench_covers, bench_merge, bench_build},
+    {"proved", hub_sheet_check, hub_plain_route, hub_table_route, hub_wanted, bench_covers, bench_merge, bench_build},
 #endif
 };
 const unsigned side_count = sizeof sides / sizeof sides[0];
@@ -14,6 +14,7 @@ const char *const call_names[] = {
     [SHEET_CHECK] = "sheet check",
     [PLAIN_ROUTE] = "plain route",
     [TABLE_ROUTE] = "table route",
+    [WANTED] = "wanted",
     [COVERS] = "covering",
     [MERGE] = "merging",
     [BUILD] = "building",
@@ -32,6 +33,14 @@ static void ask_route(Answer *answer, const Side *side, const Question *q)
         answer->value = r.delivered;
         answer->count = r.tried;
     }
+}
+
+static void ask_wanted(Answer *answer, const Side *side, const Question *q)
+{
+    Asked r = side->wanted(q->sheet.at, q->sheet.length, q->table.at, q->table.length, q->document.at,
+                           q->document.length);
+    answer->number = r.number;
+    answer->value = r.said;
 }
 
 static void ask_merge(Answer *answer, const Side *side, const Question *q)
@@ -66,6 +75,9 @@ void ask(Answer *answer, const Side *side, const Question *q)
     case PLAIN_ROUTE:
     case TABLE_ROUTE:
         ask_route(answer, side, q);
+        break;
+    case WANTED:
+        ask_wanted(answer, side, q);
         break;
     case COVERS:
         ask_covers(answer, side, q);

@@ -10,6 +10,7 @@ typedef struct {
     uint8_t (*sheet_check)(const uint8_t *, size_t);
     Routed (*plain_route)(const uint8_t *, size_t, const uint8_t *, size_t);
     Tabled (*table_route)(const uint8_t *, size_t, const uint8_t *, size_t, const uint8_t *, size_t);
+    Asked (*wanted)(const uint8_t *, size_t, const uint8_t *, size_t, const uint8_t *, size_t);
     Asked (*covers)(const uint8_t *, size_t, uint64_t, uint64_t);
     Merged (*merge)(const uint8_t *, size_t, uint64_t, uint64_t, uint8_t *, size_t);
     Built (*build)(const uint8_t *, size_t, uint16_t, uint8_t *, size_t);
@@ -19,7 +20,7 @@ typedef struct {
 extern const Side sides[];
 extern const unsigned side_count;
 
-typedef enum { SHEET_CHECK, PLAIN_ROUTE, TABLE_ROUTE, COVERS, MERGE, BUILD } Call;
+typedef enum { SHEET_CHECK, PLAIN_ROUTE, TABLE_ROUTE, WANTED, COVERS, MERGE, BUILD } Call;
 extern const char *const call_names[];
 
 // What a call does not take is not looked at.
