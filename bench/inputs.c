@@ -155,7 +155,13 @@ Part family_sheet(unsigned members_of_each)
     return end_part();
 }
 
-// All nodes are parts or labels of the document's own, but for one of the first four in one document of four.
+// A part, or a label of the document's own.
+static unsigned label_of_no_family(void)
+{
+    return 1 + FAMILIES + below(FAMILY_LABELS - FAMILIES + 2);
+}
+
+// No node has a family's label, but for one of the first four in one document of four.
 Part family_document(unsigned nodes)
 {
     unsigned family = 1 + below(FAMILIES), at = chance(25) ? 1 + below(4) : 0;
@@ -163,6 +169,23 @@ Part family_document(unsigned nodes)
     put_labels(2, 'x');
     put_two(nodes);
     for (unsigned u = 1; u <= nodes; u++)
-        put_node(u, u == at ? family : 1 + FAMILIES + below(FAMILY_LABELS - FAMILIES + 2));
+        put_node(u, u == at ? family : label_of_no_family());
+    return end_part();
+}
+
+// Nodes hang on those before them, so that nothing hangs on the pattern's: they are the last.
+Part planted_document(unsigned nodes, const Pattern *pattern)
+{
+    unsigned before = nodes - pattern->count, own = FAMILY_LABELS + 1;
+    begin_part();
+    put_labels(2, 'x');
+    put_two(nodes);
+    for (unsigned u = 1; u <= before; u++)
+        put_node(u, label_of_no_family());
+    for (unsigned k = 1; k <= pattern->count; k++) {
+        Step step = pattern->steps[k - 1];
+        put_two(step.parent == 0 ? 1 + below(before) : before + step.parent);
+        put(step.label == ANY ? own : step.label);
+    }
     return end_part();
 }

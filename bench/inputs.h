@@ -2,6 +2,7 @@
 #ifndef INPUTS_H
 #define INPUTS_H
 
+#include "by_hand.h"
 #include "parts.h"
 
 // How random patterns look: how many steps, and of a hundred how many are far and how many have label 0. In a chain
@@ -26,5 +27,9 @@ Part random_document(unsigned labels, unsigned nodes);
 enum { FAMILIES = 8, CHAIN_PARTS = 4, STAR_PARTS = 4, FAMILY_LABELS = FAMILIES + CHAIN_PARTS + STAR_PARTS };
 Part family_sheet(unsigned members_of_each);
 Part family_document(unsigned nodes);
+
+// A document that satisfies a pattern without near root steps, by its last nodes, one for each step. Only these may have
+// a family's label.
+Part planted_document(unsigned nodes, const Pattern *pattern);
 
 #endif

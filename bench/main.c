@@ -77,6 +77,7 @@ static void check_cases(void)
         for (unsigned j = 0; j < sections[i].count; j++)
             check_case(sections[i].title, &sections[i].cases[j]);
     check_pairs(&rares);
+    check_pairs(&wanteds);
     check_case("Building", &tables);
     if (wrong == 0)
         return;
@@ -90,6 +91,7 @@ static void report(void)
     for (unsigned i = 0; i < section_count; i++)
         report_section(&sections[i]);
     report_rares();
+    report_wanteds();
     report_stack();
 }
 

@@ -3,7 +3,7 @@
 #include "inputs.h"
 #include "tables.h"
 
-enum { MOST_QUESTIONS = 384 };
+enum { MOST_QUESTIONS = 640 };
 
 static Question questions[MOST_QUESTIONS];
 static unsigned question_count;
@@ -12,6 +12,11 @@ Pairs rares = {
     .title = "Documents of which few match: tries spared, and the table route to the plain route",
     .first = PLAIN_ROUTE,
     .second = TABLE_ROUTE,
+};
+Pairs wanteds = {
+    .title = "Documents wanted early, late or not at all: the call wanted to the table route",
+    .first = TABLE_ROUTE,
+    .second = WANTED,
 };
 
 // The documents by one call, with what the question has beside them.
@@ -30,7 +35,7 @@ static Case case_of(const char *name, Question question, unsigned count, const P
     return made;
 }
 
-static void add_pair(Pairs *to, const char *name, Part sheet, Part table, unsigned count, const Part *documents)
+static Pair *add_pair(Pairs *to, const char *name, Part sheet, Part table, unsigned count, const Part *documents)
 {
     if (to->count == MOST_PAIRS) {
         printf("pairs.c has no room for another pair\n");
@@ -39,6 +44,7 @@ static void add_pair(Pairs *to, const char *name, Part sheet, Part table, unsign
     Pair *added = &to->of[to->count++];
     added->first = case_of(name, (Question){to->first, .sheet = sheet, .table = table}, count, documents);
     added->second = case_of(name, (Question){to->second, .sheet = sheet, .table = table}, count, documents);
+    return added;
 }
 
 // ---- documents of which few match
@@ -63,7 +69,66 @@ static void add_rares(void)
     add_rare(sheet, built_table(sheet, 16));
 }
 
+// ---- documents that are wanted early, late or not at all
+
+// What is planted in a document, and the sheds that get its notice then.
+typedef struct {
+    const char *name;
+    const Pattern *planted;
+    uint64_t delivered;
+} Kind;
+
+// Is each document delivered to those sheds, after an entry that matches, and wanted if there are any?
+static void check_kind(const Kind *kind, const Pair *pair)
+{
+    static Answer route, wanted;
+    for (unsigned i = 0; i < pair->first.count; i++) {
+        ask_afresh(&route, &sides[0], &pair->first.questions[i]);
+        ask_afresh(&wanted, &sides[0], &pair->second.questions[i]);
+        bool entry_matches = route.count > pair->first.questions[i].table.at[0];
+        if (route.value == kind->delivered && entry_matches && wanted.value == (kind->delivered != 0))
+            continue;
+        printf("%s: document %u is not what it is called: delivered to %lx, not %lx; %lu tried\n", pair->first.name,
+               i + 1, route.value, kind->delivered, route.count);
+        exit(2);
+    }
+}
+
+static void add_kind(const Kind *kind, Part sheet, Part table)
+{
+    enum { DOCUMENTS = 8 };
+    for (unsigned nodes = 16; nodes <= 1024; nodes *= 8) {
+        char name[48];
+        Part documents[DOCUMENTS];
+        snprintf(name, sizeof name, "%s, %u entries, %u nodes", kind->name, table.at[0], nodes);
+        for (unsigned i = 0; i < DOCUMENTS; i++)
+            documents[i] = planted_document(nodes, kind->planted);
+        check_kind(kind, add_pair(&wanteds, name, sheet, table, DOCUMENTS, documents));
+    }
+}
+
+static void add_wanteds(void)
+{
+    Part sheet_bytes = family_sheet(8), table_bytes = built_table(sheet_bytes, 16);
+    static Sheet sheet;
+    static Table table;
+    read_sheet(&sheet, sheet_bytes.at, sheet_bytes.length);
+    read_table(&table, &sheet, table_bytes.at, table_bytes.length);
+    const Entry *first = &table.entries[0], *last = &table.entries[table.count - 1];
+    unsigned lowest = (unsigned)__builtin_ctzll(first->members);
+    unsigned highest = 63 - (unsigned)__builtin_clzll(last->members);
+    const Kind kinds[] = {
+        {"early: the first member", &sheet.patterns[lowest], (uint64_t)1 << lowest},
+        {"late: the last member", &sheet.patterns[highest], (uint64_t)1 << highest},
+        {"none: an entry alone", &last->pattern, 0},
+    };
+    for (unsigned i = 0; i < sizeof kinds / sizeof kinds[0]; i++)
+        add_kind(&kinds[i], sheet_bytes, table_bytes);
+}
+
 void make_pairs(void)
 {
     add_rares();
+    start_random(2); // a seed by which no other member matches where the last one is planted
+    add_wanteds();
 }

@@ -9,7 +9,7 @@ typedef struct {
     Case first, second;
 } Pair;
 
-enum { MOST_PAIRS = 6 };
+enum { MOST_PAIRS = 9 };
 typedef struct {
     const char *title;
     Call first, second;
@@ -19,6 +19,9 @@ typedef struct {
 
 // Documents of which few match, by the plain route and by the table route.
 extern Pairs rares;
+
+// Whether a document is wanted, beside the table route.
+extern Pairs wanteds;
 
 void make_pairs(void);
 

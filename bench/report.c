@@ -159,3 +159,37 @@ void report_rares(void)
         printf("\n");
     }
 }
+
+// ---- documents that are wanted early, late or not at all
+
+static const PairHeads wanted_times = {{"by hand: table, ns", "proved: table, ns"}, "wanted, ns", "wanted to table"};
+static const char table_ratio[] = "table: proved to by hand", wanted_ratio[] = "wanted: proved to by hand";
+
+static Heads wanted_heads(void)
+{
+    Heads heads = {0};
+    add_head(&heads, "64 subscriptions");
+    add_pair_heads(&heads, &wanted_times);
+    if (side_count > 1) {
+        add_head(&heads, table_ratio);
+        add_head(&heads, wanted_ratio);
+    }
+    return heads;
+}
+
+void report_wanteds(void)
+{
+    Heads heads = wanted_heads();
+    print_heads(wanteds.title, &heads);
+    for (unsigned i = 0; i < wanteds.count; i++) {
+        const Pair *pair = &wanteds.of[i];
+        Times table = time_case(&pair->first), wanted = time_case(&pair->second);
+        print_name(pair->first.name);
+        print_pair(&wanted_times, &table, &wanted);
+        if (side_count > 1) {
+            print_number(table_ratio, 2, table.of[1] / table.of[0]);
+            print_number(wanted_ratio, 2, wanted.of[1] / wanted.of[0]);
+        }
+        printf("\n");
+    }
+}

@@ -7,5 +7,6 @@
 
 void report_section(const Section *section);
 void report_rares(void);
+void report_wanteds(void);
 
 #endif
