@@ -17,6 +17,7 @@ void *memset(void *to, int byte, size_t length);
 int memcmp(const void *a, const void *b, size_t length);
 size_t strlen(const char *text);
 int strcmp(const char *a, const char *b);
+char *strstr(const char *text, const char *part);
 int printf(const char *restrict format, ...) __attribute__((format(printf, 1, 2)));
 int snprintf(char *restrict to, size_t room, const char *restrict format, ...) __attribute__((format(printf, 3, 4)));
 [[noreturn]] void exit(int status);

@@ -1,5 +1,5 @@
 // The benchmark: the examples, then the same answers from both sides on every input, then the times of both and the stack they take.
-// With the word --compare it ends after the answers.
+// With the word --compare it ends after the answers; with --only WORDS it reports those sections whose titles hold the words.
 #include "examples.h"
 #include "report.h"
 #include "stack.h"
@@ -85,14 +85,18 @@ static void check_cases(void)
     exit(1);
 }
 
-static void report(void)
+static void report(const char *only)
 {
     printf("- %u questions answered%s\n", checked, side_count > 1 ? ", each alike by both sides" : "");
     for (unsigned i = 0; i < section_count; i++)
-        report_section(&sections[i]);
-    report_rares();
-    report_wanteds();
-    report_stack();
+        if (strstr(sections[i].title, only) != NULL)
+            report_section(&sections[i]);
+    if (strstr(rares.title, only) != NULL)
+        report_rares();
+    if (strstr(wanteds.title, only) != NULL)
+        report_wanteds();
+    if (strstr(stack_title, only) != NULL)
+        report_stack();
 }
 
 int main(int count, char **words)
@@ -104,6 +108,6 @@ int main(int count, char **words)
     if (count == 2 && strcmp(words[1], "--compare") == 0)
         printf("bench: %u answers agree\n", checked);
     else
-        report();
+        report(count == 3 && strcmp(words[1], "--only") == 0 ? words[2] : "");
     return 0;
 }

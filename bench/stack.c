@@ -48,9 +48,11 @@ static Question deepest(Call call)
     return (Question){call, sheet, table, document, 0, 1, 0};
 }
 
+const char stack_title[] = "Stack for one call: 64 chains of 16 far steps, 1,024 nodes";
+
 void report_stack(void)
 {
-    printf("\n### Stack for one call: 64 chains of 16 far steps, 1,024 nodes\n\n| call        |");
+    printf("\n### %s\n\n| call        |", stack_title);
     for (unsigned s = 0; s < side_count; s++)
         printf(" %7s, bytes |", sides[s].name);
     printf("\n|---|%s\n", side_count > 1 ? "---:|---:|" : "---:|");

@@ -2,6 +2,7 @@
 #ifndef STACK_H
 #define STACK_H
 
+extern const char stack_title[];
 void report_stack(void);
 
 #endif

@@ -25,7 +25,6 @@ use Rattle.meaning.specs.declared.Merged.the-variants as merged
 use Rattle.meaning.specs.declared.Built.the-variants as built
 use Rattle.meaning.specs.declared.Routed.{Routed}
 use Rattle.meaning.specs.declared.Routed.the-variants as routed
-use Rattle.meaning.specs.declared.Tabled.{Tabled}
 use Rattle.meaning.specs.declared.Tabled.the-variants as tabled
 use Rattle.laws.specs.Refusals.{NotZero, sheet-numbered, document-numbered, fair-table-numbered}
 

@@ -3,15 +3,15 @@
 use Prim.Native.Nat.{ℕ, zero, suc, _+_, _*_, _≤_, _<_}
 use mathlib.Core.Path.{_≡_, refl, sym, ap, _∙_}
 use mathlib.Core.Logic.{_↔_}
-use mathlib.Core.Bool.{Bool, true, false, not, _&&_, _||_, true≢false, false≢true}
-use mathlib.Core.List.{List, [], _∷_, _++_, map, flatMap, List·Memᴰ}
+use mathlib.Core.Bool.{Bool, true, false, not, _||_, true≢false, false≢true}
+use mathlib.Core.List.{List, [], _∷_, map, flatMap}
 use native.Mathlib.Omega.{arith}
-use borrow.Author.Tests.{eq-eqb, ne-eqb}
+use borrow.Author.Tests.{ne-eqb}
 use lib.Dec.{eqb}
 use lib.ListN.{length, getD, length-map, length-append}
 use Rattle.base.specs.Bools.{and-first, and-second, and-both, both-ways}
 use Rattle.base.specs.Choice.{pick}
-use Rattle.base.specs.Lists.{some, keep, total, numbersFrom}
+use Rattle.base.specs.Lists.{some, total, numbersFrom}
 use Rattle.base.specs.Mapping.{getD-map}
 use Rattle.base.specs.ListLaws.{some-gives, some-of, some-append, keep-gives, keep-of, numbersFrom-gives, numbersFrom-of}
 use Rattle.meaning.specs.Forest.{Forest, none}
@@ -90,9 +90,9 @@ module _ (ns : List Node) (ps : List Forest) where
   own i = satisfies ns (getD ps i none)
 
   -- at an entry if it matches, and one of its members does
-  entry-gives : (e : Entry) → anyYes (answerComes ns ps e) ≡ true → (i : ℕ) × (i < length ps) × (matchesFor ns i e ≡ true) × (own i ≡ true)
+  comes-gives : (e : Entry) → anyYes (answerComes ns ps e) ≡ true → (i : ℕ) × (i < length ps) × (matchesFor ns i e ≡ true) × (own i ≡ true)
   unfolding answerComes anyYes some matchesFor hasMember membersOf pick
-  entry-gives e h = go (satisfies ns (e .pattern)) refl h
+  comes-gives e h = go (satisfies ns (e .pattern)) refl h
     where
       go : (b : Bool) → satisfies ns (e .pattern) ≡ b → anyYes (pick b (map own (membersOf (length ps) (e .members))) []) ≡ true
           → (i : ℕ) × (i < length ps) × (matchesFor ns i e ≡ true) × (own i ≡ true)
@@ -102,10 +102,11 @@ module _ (ns : List Node) (ps : List Forest) where
           (i, omega (arith, numbersFrom-gives 0 (length ps) (kept .0) .1), and-both (isMember (e .members) i) (satisfies ns (e .pattern)) (kept .1) s, yes′)
       go false s k = absurd (false≢true k)
 
-  entry-of : (e : Entry) (i : ℕ) → i < length ps → matchesFor ns i e ≡ true → own i ≡ true → anyYes (answerComes ns ps e) ≡ true
+  comes-of : (e : Entry) (i : ℕ) → i < length ps → matchesFor ns i e ≡ true → own i ≡ true → anyYes (answerComes ns ps e) ≡ true
   unfolding answerComes anyYes some matchesFor hasMember membersOf pick
-  entry-of e i l h yes′ =
-      let member = keep-of (isMember (e .members)) (numbersFrom-of 0 (length ps) i (omega arith) (omega arith)) (and-first (isMember (e .members) i) (satisfies ns (e .pattern)) h) in
+  comes-of e i l h yes′ =
+      let is-member = and-first (isMember (e .members) i) (satisfies ns (e .pattern)) h in
+      let member = keep-of (isMember (e .members)) (numbersFrom-of 0 (length ps) i (omega arith) (omega arith)) is-member in
       rw (and-second (isMember (e .members) i) (satisfies ns (e .pattern)) h) (any-map own (membersOf (length ps) (e .members)) ∙ some-of own member yes′)
 
   -- at one of them exactly if the route by the table is not 0, whether it is fair or not
@@ -116,7 +117,7 @@ module _ (ns : List Node) (ps : List Forest) where
       there : some (λ e. anyYes (answerComes ns ps e)) es ≡ true → anyYes (deliveredFrom ns es 0 ps) ≡ true
       there h =
           let (e, m, k) = some-gives (λ x. anyYes (answerComes ns ps x)) es h in
-          let (i, l, matches, yes′) = entry-gives e k in
+          let (i, l, matches, yes′) = comes-gives e k in
           any-of (deliveredFrom ns es 0 ps) i
           (delivered-at ns es ps i l ∙ and-both (some (matchesFor ns i) es) (own i) (some-of (matchesFor ns i) m matches) yes′)
 
@@ -126,7 +127,7 @@ module _ (ns : List Node) (ps : List Forest) where
           let l : i < length ps = omega (arith, delivered-long ns es 0 ps) in
           let both = sym (delivered-at ns es ps i l) ∙ k in
           let (e, m, matches) = some-gives (matchesFor ns i) es (and-first (some (matchesFor ns i) es) (own i) both) in
-          some-of (λ x. anyYes (answerComes ns ps x)) m (entry-of e i l matches (and-second (some (matchesFor ns i) es) (own i) both))
+          some-of (λ x. anyYes (answerComes ns ps x)) m (comes-of e i l matches (and-second (some (matchesFor ns i) es) (own i) both))
 
   module _ (es : List Entry) (up : Rising (parentsOf ns)) (just : fair ps es ≡ true) where
     -- by a fair table the document is wanted exactly if its route is not 0

@@ -223,7 +223,10 @@ wants =
 unfoldable pub untilWanted : Forest → Forest → Forest → ℕ
 untilWanted p q r =
     triedUntilWanted aOverB
-    (record { members = 1; pattern = slashes a none } ∷ record { members = 8; pattern = slashes c none } ∷ record { members = 6; pattern = slashes b none } ∷ [])
+    (record { members = 1; pattern = slashes a none }
+    ∷ record { members = 8; pattern = slashes c none }
+    ∷ record { members = 6; pattern = slashes b none }
+    ∷ [])
     (p ∷ q ∷ r ∷ slashes c none ∷ [])
 
 unfoldable pub untils : List ℕ

@@ -114,15 +114,15 @@ module _ (s t d : List ℕ) where
   wanted-by-place = three-judged s t d asked.Refused wantedSays
 
   -- a refusal
-  pub wanted-refused : {m : ℕ} → threePlace s t d ≡ No m → asked.Refused m ≡ wantedAnswer s t d
+  pub wanting-refused : {m : ℕ} → threePlace s t d ≡ No m → asked.Refused m ≡ wantedAnswer s t d
   unfolding reached
-  wanted-refused h = sym (wanted-by-place ∙ rw h)
+  wanting-refused h = sym (wanted-by-place ∙ rw h)
 
   -- whether the answer comes is said
-  pub wanted-said : {y at n : ℕ} {yes′ : Bool} → threePlace s t d ≡ At y → at ≡ nodeCountAt d + 2 → n ≡ pairAt d (nodeCountAt d)
+  pub wanting-said : {y at n : ℕ} {yes′ : Bool} → threePlace s t d ≡ At y → at ≡ nodeCountAt d + 2 → n ≡ pairAt d (nodeCountAt d)
       → yes′ ≡ anyYes (flatMap (answerComes (nodesAt d at n) (sheetAt s .patterns)) (tableAt t)) → asked.Said yes′ ≡ wantedAnswer s t d
   unfolding reached documentAt
-  wanted-said {y} {at} {n} {yes′} h a b q =
+  wanting-said {y} {at} {n} {yes′} h a b q =
       let ns = nodesAt d at n in
       let said : yes′ ≡ wanted ns (sheetAt s .patterns) =
       q ∙ answer-wanted ns (sheetAt s .patterns) (tableAt t) (three-nodes s t d h a b .rising) (three-fair s t d h) in

@@ -51,10 +51,10 @@ module _ (members i : ℕ) (said : Bool) where
   member-not-tried e h = pick-false _ _ _ (isMember members i) (sym e ∙ h) refl
 
   -- what is tried is marked
-  pub member-marked : {q : Tried} {set : ℕ} (r : Route) → q ≡ memberTry members i said (r .tried) → set ≡ marked (r .set) i (q .yes)
+  pub tried-marked : {q : Tried} {set : ℕ} (r : Route) → q ≡ memberTry members i said (r .tried) → set ≡ marked (r .set) i (q .yes)
       → _≡_ {A = Route} (record { set = set; tried = q .tried }) (memberTried members i said r)
   unfolding memberTry memberTried marked pick
-  member-marked r h k = rw (k, h) (go (isMember members i))
+  tried-marked r h k = rw (k, h) (go (isMember members i))
     where
       try : Bool → Tried
       try b = pick b (record { yes = said; tried = r .tried + 1 }) (record { yes = false; tried = r .tried })

@@ -16,7 +16,7 @@ ghost use Rattle.subscriptions.specs.Subscribed.{SubscriptionsStand};
 ghost use Rattle.tables.specs.TableSection.{tableAt};
 ghost use Rattle.tables.specs.TableJudged.{EntriesStand};
 ghost use Rattle.documents.specs.DocumentJudged.{NodesStand};
-ghost use Rattle.routing.specs.Wanting.{asking, membersSay};
+ghost use Rattle.routing.specs.Wanting.{askInTurn, membersSay};
 
 // Members are tried until one matches.
 fn try_members(
@@ -29,7 +29,7 @@ fn try_members(
     tried: usize,
 ) -> Tried
     requires { ⌜ SubscriptionsStand (now s) subscriptions × NodesStand (now d) at n × (tried < 2 ^ 31) ⌝ }
-    ensures { λ r. ⌜ r ≡ asking (membersSay (nodesAt (now (d .entry)) at n) (sheetAt (now (s .entry)) .patterns) members) tried ⌝ }
+    ensures { λ r. ⌜ r ≡ askInTurn (membersSay (nodesAt (now (d .entry)) at n) (sheetAt (now (s .entry)) .patterns) members) tried ⌝ }
 {
     let mut so_far = tried;
     let mut i = 0;
@@ -59,7 +59,7 @@ fn try_entry(
     tried: usize,
 ) -> Tried
     requires { ⌜ SubscriptionsStand (now s) subscriptions × NodesStand (now d) at n × WellFormed (e .pattern) × (tried < 2 ^ 30) ⌝ }
-    ensures { λ r. ⌜ r ≡ asking (answerComes (nodesAt (now (d .entry)) at n) (sheetAt (now (s .entry)) .patterns) (entryOf e)) tried ⌝ }
+    ensures { λ r. ⌜ r ≡ askInTurn (answerComes (nodesAt (now (d .entry)) at n) (sheetAt (now (s .entry)) .patterns) (entryOf e)) tried ⌝ }
 {
     let asked = try_pattern(d, at, n, e.pattern, tried);
     if asked.yes {

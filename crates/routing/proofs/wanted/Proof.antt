@@ -2,7 +2,7 @@
 use mathlib.Core.Path.{sym, _∙_}
 use borrow.Author.Needs.{needs}
 use Rattle.routing.specs.ThreeJudged.{three-stand}
-use Rattle.routing.specs.RouteAnswers.{wanted-refused, wanted-said}
+use Rattle.routing.specs.RouteAnswers.{wanting-refused, wanting-said}
 use Rattle.routing.proofs.wanted.Statement.{statement}
 use Rattle.routing.proofs.wanted.Tie as tie
 
@@ -17,11 +17,11 @@ returns : tie.Need-returns
 returns c =
     let x = c .before .before .before .before .before .before in
     let judged = sym (x .before .before .sheet-table-and-document .ensures) ∙ x .x .given .1 in
-    wanted-said _ _ _ judged (c .before .before .node-place .ensures .0) (c .before .node-count .ensures .0)
+    wanting-said _ _ _ judged (c .before .before .node-place .ensures .0) (c .before .node-count .ensures .0)
     (c .try-entries .ensures .0)
 
 returns-2 : tie.Need-returns-2
-returns-2 c = wanted-refused _ _ _ (sym (c .before .before .before .sheet-table-and-document .ensures) ∙ c .before .m .given .1)
+returns-2 c = wanting-refused _ _ _ (sym (c .before .before .before .sheet-table-and-document .ensures) ∙ c .before .m .given .1)
 
 pub wanted-spec : {M : Type 1} → statement M
 wanted-spec =
