@@ -36,18 +36,18 @@ static void expect_plain(const char *name, Part sheet, Part document, uint8_t nu
     expect(name, answer.number == number && answer.value == delivered);
 }
 
-static void expect_table(const char *name, Part sheet, Part table, Part document, Tabled given)
+static void expect_table(const char *name, Part sheet, Part table, Part document, Tabled expected)
 {
     Answer answer;
     ask_afresh(&answer, side, &(Question){TABLE_ROUTE, .sheet = sheet, .table = table, .document = document});
-    expect(name, answer.number == given.number && answer.value == given.delivered && answer.count == given.tried);
+    expect(name, answer.number == expected.number && answer.value == expected.delivered && answer.count == expected.tried);
 }
 
-static void expect_wanted(const char *name, Part sheet, Part table, Part document, Asked given)
+static void expect_wanted(const char *name, Part sheet, Part table, Part document, Asked expected)
 {
     Answer answer;
     ask_afresh(&answer, side, &(Question){WANTED, .sheet = sheet, .table = table, .document = document});
-    expect(name, answer.number == given.number && answer.value == given.said);
+    expect(name, answer.number == expected.number && answer.value == expected.said);
 }
 
 // Both calls that take a table refuse alike.

@@ -85,18 +85,33 @@ static void check_cases(void)
     exit(1);
 }
 
-static void report(const char *only)
+// The words that a title has to hold, and how many did.
+static const char *only = "";
+static unsigned reported;
+
+static bool is_asked_for(const char *title)
+{
+    bool asked = strstr(title, only) != NULL;
+    reported += asked;
+    return asked;
+}
+
+static void report(void)
 {
     printf("- %u questions answered%s\n", checked, side_count > 1 ? ", each alike by both sides" : "");
     for (unsigned i = 0; i < section_count; i++)
-        if (strstr(sections[i].title, only) != NULL)
+        if (is_asked_for(sections[i].title))
             report_section(&sections[i]);
-    if (strstr(rares.title, only) != NULL)
+    if (is_asked_for(rares.title))
         report_rares();
-    if (strstr(wanteds.title, only) != NULL)
+    if (is_asked_for(wanteds.title))
         report_wanteds();
-    if (strstr(stack_title, only) != NULL)
+    if (is_asked_for(stack_title))
         report_stack();
+    if (reported != 0)
+        return;
+    printf("bench: no title holds '%s'\n", only);
+    exit(2);
 }
 
 int main(int count, char **words)
@@ -105,9 +120,12 @@ int main(int count, char **words)
     make_cases();
     make_pairs();
     check_cases();
-    if (count == 2 && strcmp(words[1], "--compare") == 0)
+    if (count == 2 && strcmp(words[1], "--compare") == 0) {
         printf("bench: %u answers agree\n", checked);
-    else
-        report(count == 3 && strcmp(words[1], "--only") == 0 ? words[2] : "");
+        return 0;
+    }
+    if (count == 3 && strcmp(words[1], "--only") == 0)
+        only = words[2];
+    report();
     return 0;
 }

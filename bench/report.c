@@ -91,8 +91,7 @@ void report_section(const Section *section)
 
 // ---- the same documents by two calls
 
-// The heads above the times of the two calls and above what the second's are to the first's; the first tells the sides
-// apart.
+// Heads for a pair: the first call's time, which names the side, the second's, and their ratio.
 typedef struct {
     const char *first[MOST_SIDES], *second, *ratio;
 } PairHeads;

@@ -37,7 +37,7 @@ Routed hand_plain_route(const uint8_t *sheet_bytes, size_t sheet_length, const u
     return (Routed){DONE, delivered};
 }
 
-// What a notice is routed by a table with, once all of it is judged.
+// All that a route by a table needs, once it is judged.
 typedef struct {
     Sheet sheet;
     Table table;

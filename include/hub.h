@@ -87,7 +87,7 @@ hub_table_answer hub_table_route(const uint8_t *sheet, size_t sheet_length,
                                  const uint8_t *table, size_t table_length,
                                  const uint8_t *document, size_t document_length);
 
-/* Does at least one shed get it? `wanted` is true exactly where hub_table_route delivers to a shed, and the refusals
+/* Does at least one shed get the notice? `wanted` is true exactly where hub_table_route delivers to a shed, and the refusals
  * are the same. Entries and members are asked in the same order, and nothing after the first member that matches. */
 hub_wanted_answer hub_wanted(const uint8_t *sheet, size_t sheet_length,
                              const uint8_t *table, size_t table_length,

@@ -5,7 +5,7 @@
  * print_server --wanted SHEET TABLE DOCUMENT   prints `wanted` if at least one shed gets the notice, else `not wanted`
  *
  * The other arguments are files. Status 0: done; 1: the hub refused the files, and standard error says why; 2: the files
- * could not be read, there are too few or too many, or there is no such option. */
+ * could not be read, there are too few or too many, or the first begins with `-` and is no option. */
 #include "hub.h"
 
 #include <stdio.h>

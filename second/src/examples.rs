@@ -220,7 +220,7 @@ fn wanting_examples(list: &mut Vec<Example>) {
     let mut nobody = question(b'W', &[0, 0]);
     nobody.table = vec![0];
     nobody.document = document_of(&[b"CD"], &[(0, 1)]);
-    add(list, "no subscriptions want nothing", nobody, "0 0");
+    add(list, "no subscriptions: not wanted", nobody, "0 0");
 }
 
 /// The first entry has a member that matches; what is refused stands behind it.

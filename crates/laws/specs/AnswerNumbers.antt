@@ -26,6 +26,7 @@ use Rattle.meaning.specs.declared.Built.the-variants as built
 use Rattle.meaning.specs.declared.Routed.{Routed}
 use Rattle.meaning.specs.declared.Routed.the-variants as routed
 use Rattle.meaning.specs.declared.Tabled.the-variants as tabled
+use Rattle.laws.specs.ThreeParts.{three-map}
 use Rattle.laws.specs.Refusals.{NotZero, sheet-numbered, document-numbered, fair-table-numbered}
 
 -- ---- 0 is given exactly where a call is not refused
@@ -242,36 +243,33 @@ plain-route-number s d = by-sheet (sheet s)
     by-sheet (read sh left) = by-document sh (document sh d)
     by-sheet (refused n) = refl
 
--- where sheet, table and document are judged, the first fault of the table's number, beside the sheet, and the document's
-module _ {E A : Type 0} (given : E → Given A) (refuse : ℕ → E) (number : (n : ℕ) → given (refuse n) .number ≡ n)
-    (says : Sheet → List Entry → Document → E) (zero′ : (sh : Sheet) (es : List Entry) (dc : Document) → given (says sh es dc) .number ≡ 0)
-    (s t d : List ℕ) where
-  three-number : given (threeJudged refuse says s t d) .number ≡ firstFault (tableNumber s t) (documentNumber s d)
-  unfolding threeJudged tableNumber documentNumber judged numberOf NotZero firstFault pick
-  three-number = by-sheet (sheet s)
-    where
-      by-document : (sh : Sheet) (es : List Entry) (m : Reading Document) → given (judged m refuse (says sh es)) .number ≡ numberOf m
-      by-document sh es (read dc left) = zero′ sh es dc
-      by-document sh es (refused n) = number n
+-- after sheet, table and document: the first fault of the table's, which is judged beside the sheet, and the document's
+three-fault : (s t d : List ℕ) → threeJudged (λ n. n) (λ sh es dc. 0) s t d ≡ firstFault (tableNumber s t) (documentNumber s d)
+unfolding threeJudged tableNumber documentNumber judged numberOf NotZero firstFault pick
+three-fault s t d = by-sheet (sheet s)
+  where
+    by-document : (m : Reading Document) → judged m (λ n. n) (λ dc. 0) ≡ numberOf m
+    by-document (read dc left) = refl
+    by-document (refused n) = refl
 
-      by-table : (sh : Sheet) (m : Reading (List Entry)) → NotZero m
-          → given (judged m refuse (λ es. judged (document sh d) refuse (says sh es))) .number ≡ firstFault (numberOf m) (numberOf (document sh d))
-      by-table sh (read es left) h = by-document sh es (document sh d)
-      by-table sh (refused n) h = number n ∙ earlier-fault n (numberOf (document sh d)) h
+    by-table : (sh : Sheet) (m : Reading (List Entry)) → NotZero m
+        → judged m (λ n. n) (λ es. judged (document sh d) (λ n. n) (λ dc. 0)) ≡ firstFault (numberOf m) (numberOf (document sh d))
+    by-table sh (read es left) h = by-document (document sh d)
+    by-table sh (refused n) h = earlier-fault n (numberOf (document sh d)) h
 
-      by-sheet : (m : Reading Sheet)
-          → given (judged m refuse (λ sh. judged (fairTable sh t) refuse (λ es. judged (document sh d) refuse (says sh es)))) .number
-          ≡ firstFault (judged m (λ n. n) (λ sh. numberOf (fairTable sh t))) (judged m (λ n. n) (λ sh. numberOf (document sh d)))
-      by-sheet (read sh left) = by-table sh (fairTable sh t) (fair-table-numbered sh .not-zero t)
-      by-sheet (refused n) = number n ∙ same-fault n
+    by-sheet : (m : Reading Sheet)
+        → judged m (λ n. n) (λ sh. judged (fairTable sh t) (λ n. n) (λ es. judged (document sh d) (λ n. n) (λ dc. 0)))
+        ≡ firstFault (judged m (λ n. n) (λ sh. numberOf (fairTable sh t))) (judged m (λ n. n) (λ sh. numberOf (document sh d)))
+    by-sheet (read sh left) = by-table sh (fairTable sh t) (fair-table-numbered sh .not-zero t)
+    by-sheet (refused n) = same-fault n
 
 pub table-route-number : (s t d : List ℕ) → tabledGiven (tableAnswer s t d) .number ≡ firstFault (tableNumber s t) (documentNumber s d)
-unfolding tableAnswer threeJudged tabledGiven refusal gives
-table-route-number = three-number tabledGiven tabled.Refused (λ n. refl) _ (λ sh es dc. refl)
+unfolding tableAnswer tabledGiven refusal gives
+table-route-number s t d = three-map (λ r. tabledGiven r .number) (λ n. refl) (λ sh es dc just up. refl) s t d ∙ three-fault s t d
 
 pub wanted-number : (s t d : List ℕ) → askedGiven (wantedAnswer s t d) .number ≡ firstFault (tableNumber s t) (documentNumber s d)
-unfolding wantedAnswer threeJudged askedGiven refusal gives
-wanted-number = three-number askedGiven asked.Refused (λ n. refl) _ (λ sh es dc. refl)
+unfolding wantedAnswer askedGiven refusal gives
+wanted-number s t d = three-map (λ r. askedGiven r .number) (λ n. refl) (λ sh es dc just up. refl) s t d ∙ three-fault s t d
 
 -- ---- a refused call gives zeros or an empty part, and leaves a lent output as found
 

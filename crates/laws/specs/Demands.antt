@@ -1,6 +1,7 @@
--- The customer's three demands, on bytes: what is proved of each, in one place. What a call gives is its answer, for any bytes
--- and numbers, by its promise (`meaning`, Promises); this page says of the answers what the customer asked for. Many theorems
--- speak of a sheet and a document as they were read: `sheet-of-0` and `document-of-0` give that where the number is 0.
+-- The customer's three demands, on bytes, and then what the change requests promise: what is proved of each, in one place. What a
+-- call gives is its answer, for any bytes and numbers, by its promise (`meaning`, Promises); this page says of the answers what
+-- the customer asked for. Many theorems speak of a sheet and a document as they were read: `sheet-of-0` and `document-of-0` give
+-- that where the number is 0.
 use Prim.Native.Nat.{ℕ, suc, _+_, _≤_, _<_}
 use mathlib.Core.Path.{_≡_, refl, sym, ap, _∙_}
 use mathlib.Core.Logic.{_⊎_, inl, inr, _↔_}
@@ -50,7 +51,7 @@ use Rattle.laws.specs.Rounds.{build-within, build-rounds}
 use Rattle.laws.specs.Passing as built
 use Rattle.laws.specs.Routes.{table-is-plain, fair-table-fair, delivered-bit}
 use Rattle.laws.specs.Rising.{Rising}
-use Rattle.laws.specs.Wanted.{notZero, wanted-by-table, wanted-by, answer-wanted, tried-no-more, tried-all}
+use Rattle.laws.specs.WantedRoutes.{routeNotZero, wanted-by-table, wanted-by, answer-wanted, tried-no-more, tried-all}
 use Rattle.laws.specs.Cases as cases
 
 -- ======== 1. "Every call may be given arbitrary bytes and numbers. It ends, reads and writes only inside what it was lent, and
@@ -324,11 +325,11 @@ pub output-passes : (s : List ℕ) (limit : ℕ) (out : List ℕ) → (let w = w
     builtGiven (buildAnswer w) .refused ≡ false → tableNumber s (take (builtGiven (buildAnswer w) .values .length) (after out w)) ≡ 0)
 output-passes = built.output-passes
 
--- ======== Does anyone want it? "The print server asks only whether at least one shed takes the document. The answer may come at the
+-- ======== #101 Does anyone want it? "The print server asks only whether at least one shed takes the document. The answer may come at the
 -- first match and equals 'the route is not 0' for every sheet, fair table and document. Refusals: as for the table route."
 
 -- for any bytes at all the answer is whether the route by the table is not 0, and it is refused exactly as that route is
-pub wanting : (s t d : List ℕ) → wantedAnswer s t d ≡ notZero (tableAnswer s t d)
+pub wanting : (s t d : List ℕ) → wantedAnswer s t d ≡ routeNotZero (tableAnswer s t d)
 wanting = wanted-by-table
 
 -- for a sheet and a document that were read, and a table that passes the check, the answer is yes exactly if there is a subscription
@@ -347,7 +348,7 @@ wanted-by-some s left sh was-read d rest dc doc-read t sound =
     )
 
 -- the tries until the answer comes, at the first member that matches, are no more than those of the route, and as many where nobody
--- wants it. That no more is asked is the contract of the call in code, which asks by the try alone
+-- wants it. That no more is asked is the contract of `routing::seek`, below the hub, which asks by the try alone
 pub wanted-early : (ns : List Node) (es : List Entry) (ps : List Forest) → triedUntilWanted ns es ps ≤ tried ns es ps
 wanted-early ns es ps = tried-no-more ns ps es
 

@@ -35,7 +35,6 @@ pub mod EveryEntry
 -- what was read, and what was written
 pub mod Readers
 pub mod Refusals
-pub mod AnswerNumbers
 pub mod DocumentRead
 pub mod Labels
 pub mod Preorder
@@ -51,7 +50,9 @@ pub mod BytesDecide
 pub mod Passing
 -- routes
 pub mod Routes
-pub mod Wanted
+pub mod ThreeParts
+pub mod AnswerNumbers
+pub mod WantedRoutes
 pub mod Sheds
 -- the rose bench examples
 pub mod Cases

@@ -20,7 +20,7 @@ use Rattle.meaning.specs.Building.{noEntry, entryAt, entrySteps, stepsTo
 use Rattle.meaning.specs.Building.{pairsOf, pairsBelow, joinAt, covering, settleAt, settleTimes, settle, saves, better}
 use Rattle.meaning.specs.Building.{bestOf, bestPair, cut, largest, cutLargest, mergeOrCut, round, roundsFrom, build}
 use Rattle.meaning.specs.Fair.{isMember, hasMember, entriesOf, oneThatCovers, eachInOne, isPeopled, isWithin, fair}
-use Rattle.meaning.specs.Routing.{deliverySet, plainRoute, membersOf, triedFor, tried, wanted, answerComes, untilYes, triedUntilWanted}
+use Rattle.meaning.specs.Routing.{deliverySet, plainRoute, membersOf, triedFor, tried, wanted, membersSay, answerComes, untilYes, triedUntilWanted}
 use Rattle.meaning.specs.LabelBytes.{labelsOf, isLabel}
 use Rattle.meaning.specs.Written.{stepBytes, patternBytes}
 use Rattle.meaning.specs.Calls.{judged, fairTable, threeJudged, isSubscription, subscription, sheetNumber, documentNumber, tableNumber}
@@ -267,8 +267,8 @@ asks =
     ∷ []
 
 -- what is given with yes, and with a refusal
-unfoldable pub saids : List (Given Bool)
-saids = askedGiven (asked.Said true) ∷ askedGiven (asked.Refused 12) ∷ []
+unfoldable pub askedGivens : List (Given Bool)
+askedGivens = askedGiven (asked.Said true) ∷ askedGiven (asked.Refused 12) ∷ []
 
 -- the merge of the pattern without steps with itself takes one byte
 unfoldable pub mergesInto : List ℕ → Merged
@@ -305,7 +305,7 @@ pub record All : Type 0 where
   pub wants : List Bool
   pub untils : List ℕ
   pub asks : List Asked
-  pub saids : List (Given Bool)
+  pub askedGivens : List (Given Bool)
   pub writings : List Merged
   pub outputs : List (List ℕ)
   pub givens : List (Given RouteValues)
@@ -323,7 +323,7 @@ answers = record {
   wants = wants;
   untils = untils;
   asks = asks;
-  saids = saids;
+  askedGivens = askedGivens;
   writings = writings;
   outputs = outputs;
   givens = givens;
@@ -342,7 +342,7 @@ expected = record {
   wants = true ∷ true ∷ false ∷ false ∷ [];
   untils = 2 ∷ 5 ∷ 6 ∷ 6 ∷ [];
   asks = asked.Refused 1 ∷ asked.Refused 11 ∷ asked.Said true ∷ asked.Said true ∷ asked.Said false ∷ asked.Refused 2 ∷ asked.Refused 2 ∷ asked.Refused 12 ∷ [];
-  saids = record { refused = false; number = 0; values = true } ∷ record { refused = true; number = 12; values = false } ∷ [];
+  askedGivens = record { refused = false; number = 0; values = true } ∷ record { refused = true; number = 12; values = false } ∷ [];
   writings = merged.Refused 10 ∷ merged.Wrote 1 false ∷ merged.Wrote 1 false ∷ [];
   outputs = [] ∷ (0 ∷ []) ∷ (0 ∷ 8 ∷ 9 ∷ []) ∷ [];
   givens =
@@ -354,5 +354,5 @@ expected = record {
 
 pub told-apart : answers ≡ expected
 unfolding
-    answers expected satisfied covered merges expectedMerges measured sized sizes numbers sheetA nodeA rounds settled tries wants untilWanted untils sheetB tableA asks saids askedGiven mergesInto leaves writings outputs givens refusal gives byNumber tabledGiven node onlyA aOverB aOverBOverC sheetR slash slashes beside a b c star ascii pick some every keep total without numbersFrom go-on _>>=_ _>>_ give repeat unless byte bytes number end numberOf axisOf isNear size childrenIn forest parentIn isChild isBelowIn isBelow reaches sameLabel label labels upFrom pathAfter mayHang isNearRoot nearRoot aStep steps pattern sheet nodeParent aNode nodes document entry table anyOrSame parentsOf labelIn fitsBelow holdBelow satisfies mayLie finds fitsAt lays covers alone joined branchSize laidOn staysBeside nothing offer commonLabel bodyOf meet meetAt across through mergeWithin merge noEntry entryAt entrySteps stepsTogether entriesFrom pair coversOther ascends pairsOf pairsBelow joinAt covering settleAt settleTimes settle saves better bestOf bestPair cut largest cutLargest mergeOrCut round roundsFrom build isMember hasMember entriesOf oneThatCovers eachInOne isPeopled isWithin fair deliverySet plainRoute membersOf triedFor tried wanted answerComes untilYes triedUntilWanted judged fairTable threeJudged isSubscription subscription sheetNumber documentNumber tableNumber labelsOf isLabel labelNumber matchesAnswer wantedAnswer withRoom after mergeWriting mergeAnswer stepsFrom stepsOf axisNumber stepBytes patternBytes flatMap
+    answers expected satisfied covered merges expectedMerges measured sized sizes numbers sheetA nodeA rounds settled tries wants untilWanted untils sheetB tableA asks askedGivens askedGiven mergesInto leaves writings outputs givens refusal gives byNumber tabledGiven node onlyA aOverB aOverBOverC sheetR slash slashes beside a b c star ascii pick some every keep total without numbersFrom go-on _>>=_ _>>_ give repeat unless byte bytes number end numberOf axisOf isNear size childrenIn forest parentIn isChild isBelowIn isBelow reaches sameLabel label labels upFrom pathAfter mayHang isNearRoot nearRoot aStep steps pattern sheet nodeParent aNode nodes document entry table anyOrSame parentsOf labelIn fitsBelow holdBelow satisfies mayLie finds fitsAt lays covers alone joined branchSize laidOn staysBeside nothing offer commonLabel bodyOf meet meetAt across through mergeWithin merge noEntry entryAt entrySteps stepsTogether entriesFrom pair coversOther ascends pairsOf pairsBelow joinAt covering settleAt settleTimes settle saves better bestOf bestPair cut largest cutLargest mergeOrCut round roundsFrom build isMember hasMember entriesOf oneThatCovers eachInOne isPeopled isWithin fair deliverySet plainRoute membersOf triedFor tried wanted membersSay answerComes untilYes triedUntilWanted judged fairTable threeJudged isSubscription subscription sheetNumber documentNumber tableNumber labelsOf isLabel labelNumber matchesAnswer wantedAnswer withRoom after mergeWriting mergeAnswer stepsFrom stepsOf axisNumber stepBytes patternBytes flatMap
 told-apart = refl

@@ -47,21 +47,19 @@ triedFor ns n e = pick (satisfies ns (e .pattern)) (length (membersOf n (e .memb
 unfoldable pub tried : List Node → List Entry → List Forest → ℕ
 tried ns es ps = length es + total (triedFor ns (length ps)) es
 
--- does anyone want it: whether at least one shed takes the document, that is, whether the plain route is not 0; and so is the route
--- by any fair table, as `laws` proves
+-- does anyone want it: whether at least one shed takes the document, that is, whether the plain route is not 0. `laws` proves this
+-- equal to "the route by the table is not 0" for any fair table
 unfoldable pub wanted : List Node → List Forest → Bool
 wanted ns ps = not (eqb (plainRoute ns ps) 0)
+
+-- what members say, in order: whether the document satisfies each one's own pattern
+unfoldable pub membersSay : List Node → List Forest → ℕ → List Bool
+membersSay ns ps members = map (λ i. satisfies ns (getD ps i none)) (membersOf (length ps) members)
 
 -- for each pattern that is asked for an entry, in order, whether the answer comes there: never at the entry's own, even if it
 -- matches; then, if it matches, at a member that matches
 unfoldable pub answerComes : List Node → List Forest → Entry → List Bool
-answerComes ns ps e =
-    let said = map (λ i. satisfies ns (getD ps i none)) (membersOf (length ps) (e .members)) in
-    false ∷ pick (satisfies ns (e .pattern)) said []
-
--- at least one of them is yes
-unfoldable pub anyYes : List Bool → Bool
-anyYes saids = some (λ said. said) saids
+answerComes ns ps e = let theirs = membersSay ns ps (e .members) in false ∷ pick (satisfies ns (e .pattern)) theirs []
 
 -- how many are asked until the answer comes, that one counted; all where it doesn't come
 unfoldable pub untilYes : List Bool → ℕ

@@ -3,4 +3,5 @@ pub mod ThreeJudged
 pub mod Tabling
 pub mod TableSet
 pub mod Wanting
+pub mod Sought
 pub mod RouteAnswers

@@ -1,19 +1,17 @@
 -- The answers of the hub's calls, from what was judged by places.
 use Prim.Native.Nat.{ℕ, _+_}
 use mathlib.Core.Path.{_≡_, sym, ap, _∙_}
-use mathlib.Core.Bool.{Bool}
-use mathlib.Core.List.{List, flatMap}
+use mathlib.Core.List.{List}
 use Rattle.base.specs.declared.Cur.the-variants.{At, No}
 use Rattle.meaning.specs.Sections.{Sheet, Document, Node, Entry}
-use Rattle.meaning.specs.Routing.{plainRoute, tableRoute, tried, wanted, answerComes, anyYes}
-use Rattle.meaning.specs.Calls.{matchesAnswer, plainAnswer, tableAnswer, wantedAnswer}
+use Rattle.meaning.specs.Routing.{plainRoute, tableRoute, tried}
+use Rattle.meaning.specs.Calls.{matchesAnswer, plainAnswer, tableAnswer}
 use Rattle.meaning.specs.declared.Asked.{Asked}
 use Rattle.meaning.specs.declared.Asked.the-variants as asked
 use Rattle.meaning.specs.declared.Routed.{Routed}
 use Rattle.meaning.specs.declared.Routed.the-variants as routed
 use Rattle.meaning.specs.declared.Tabled.{Tabled}
 use Rattle.meaning.specs.declared.Tabled.the-variants as tabled
-use Rattle.laws.specs.Wanted.{answer-wanted}
 use Rattle.shapes.specs.Shapes.{nodesAt}
 use Rattle.places.specs.Bytes.{pairAt}
 use Rattle.reading.specs.SheetPlaces.{sheetAt}
@@ -21,7 +19,7 @@ use Rattle.documents.specs.DocumentSection.{nodeCountAt, documentAt}
 use Rattle.places.specs.Reached.{reached}
 use Rattle.routing.specs.declared.by_table.Route.{Route}
 use Rattle.documents.specs.DocumentJudged.{both-judged, sheetDocumentPlace}
-use Rattle.routing.specs.ThreeJudged.{threePlace, three-judged, three-nodes, three-fair}
+use Rattle.routing.specs.ThreeJudged.{threePlace, three-judged}
 use Rattle.routing.specs.Plain.{numberedAnswer}
 use Rattle.routing.specs.Tabling.{routeBy, route-tried}
 use Rattle.routing.specs.TableSet.{route-set}
@@ -102,28 +100,3 @@ module _ (s t d : List ℕ) where
       let set : r .set ≡ tableRoute ns (tableAt t) (sheetAt s .patterns) = ap (λ (u : Route). u .set) q ∙ route-set ns (sheetAt s .patterns) (tableAt t) in
       let count : r .tried ≡ tried ns (tableAt t) (sheetAt s .patterns) = ap (λ (u : Route). u .tried) q ∙ route-tried ns (sheetAt s .patterns) (tableAt t) in
       sym (table-by-place ∙ rw (h, ← a, ← b, ← set, ← count))
-
-  -- ---- does anyone want it
-
-  abbrev wantedSays : Sheet → List Entry → Document → Asked
-  wantedSays sh es dc = asked.Said (wanted (dc .nodes) (sh .patterns))
-
-  -- by the place that was reached
-  wanted-by-place : wantedAnswer s t d ≡ reached (threePlace s t d) asked.Refused (wantedSays (sheetAt s) (tableAt t) (documentAt d))
-  unfolding wantedAnswer
-  wanted-by-place = three-judged s t d asked.Refused wantedSays
-
-  -- a refusal
-  pub wanting-refused : {m : ℕ} → threePlace s t d ≡ No m → asked.Refused m ≡ wantedAnswer s t d
-  unfolding reached
-  wanting-refused h = sym (wanted-by-place ∙ rw h)
-
-  -- whether the answer comes is said
-  pub wanting-said : {y at n : ℕ} {yes′ : Bool} → threePlace s t d ≡ At y → at ≡ nodeCountAt d + 2 → n ≡ pairAt d (nodeCountAt d)
-      → yes′ ≡ anyYes (flatMap (answerComes (nodesAt d at n) (sheetAt s .patterns)) (tableAt t)) → asked.Said yes′ ≡ wantedAnswer s t d
-  unfolding reached documentAt
-  wanting-said {y} {at} {n} {yes′} h a b q =
-      let ns = nodesAt d at n in
-      let said : yes′ ≡ wanted ns (sheetAt s .patterns) =
-      q ∙ answer-wanted ns (sheetAt s .patterns) (tableAt t) (three-nodes s t d h a b .rising) (three-fair s t d h) in
-      sym (wanted-by-place ∙ rw (h, ← a, ← b, ← said))

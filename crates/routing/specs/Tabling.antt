@@ -34,32 +34,34 @@ oneMore r = record { set = r .set; tried = r .tried + 1 }
 unfoldable pub memberTried : ℕ → ℕ → Bool → Route → Route
 memberTried members i said r = pick (isMember members i) (record { set = marked (r .set) i said; tried = r .tried + 1 }) r
 
--- the same of a try alone: does it match, and how many were tried with it
+-- a try where there is one, after n: does it match, and how many were tried with it
+unfoldable pub tryIf : Bool → Bool → ℕ → Tried
+tryIf b said n = pick b (record { yes = said; tried = n + 1 }) (record { yes = false; tried = n })
+
+-- the try of subscription i, if it is a member
 unfoldable pub memberTry : ℕ → ℕ → Bool → ℕ → Tried
-memberTry members i said n = pick (isMember members i) (record { yes = said; tried = n + 1 }) (record { yes = false; tried = n })
+memberTry members i said n = tryIf (isMember members i) said n
 
 module _ (members i : ℕ) (said : Bool) where
   -- a member is tried
-  pub member-tried : (n : ℕ) {b : Bool} {q : Tried} → b ≡ isMember members i → b ≡ true → (q .yes ≡ said) × (q .tried ≡ n + 1) → q ≡ memberTry members i said n
-  unfolding memberTry
-  member-tried n e h f = pick-true _ _ _ (isMember members i) (sym e ∙ h) (λ j. record { yes = f .0 j; tried = f .1 j })
+  pub try-of-member : (n : ℕ) {b : Bool} {q : Tried} → b ≡ isMember members i → b ≡ true → (q .yes ≡ said) × (q .tried ≡ n + 1)
+      → q ≡ memberTry members i said n
+  unfolding memberTry tryIf
+  try-of-member n e h f = pick-true _ _ _ (isMember members i) (sym e ∙ h) (λ j. record { yes = f .0 j; tried = f .1 j })
 
   -- another is not
-  pub member-not-tried : {n : ℕ} {b : Bool} → b ≡ isMember members i → b ≡ false
+  pub try-of-another : {n : ℕ} {b : Bool} → b ≡ isMember members i → b ≡ false
       → _≡_ {A = Tried} (record { yes = false; tried = n }) (memberTry members i said n)
-  unfolding memberTry
-  member-not-tried e h = pick-false _ _ _ (isMember members i) (sym e ∙ h) refl
+  unfolding memberTry tryIf
+  try-of-another e h = pick-false _ _ _ (isMember members i) (sym e ∙ h) refl
 
   -- what is tried is marked
   pub tried-marked : {q : Tried} {set : ℕ} (r : Route) → q ≡ memberTry members i said (r .tried) → set ≡ marked (r .set) i (q .yes)
       → _≡_ {A = Route} (record { set = set; tried = q .tried }) (memberTried members i said r)
-  unfolding memberTry memberTried marked pick
+  unfolding memberTry memberTried tryIf marked pick
   tried-marked r h k = rw (k, h) (go (isMember members i))
     where
-      try : Bool → Tried
-      try b = pick b (record { yes = said; tried = r .tried + 1 }) (record { yes = false; tried = r .tried })
-
-      go : (b : Bool) → _≡_ {A = Route} (record { set = marked (r .set) i (try b .yes); tried = try b .tried })
+      go : (b : Bool) → _≡_ {A = Route} (record { set = marked (r .set) i (tryIf b said (r .tried) .yes); tried = tryIf b said (r .tried) .tried })
           (pick b (record { set = marked (r .set) i said; tried = r .tried + 1 }) r)
       go true = refl
       go false = refl

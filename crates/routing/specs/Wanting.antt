@@ -1,11 +1,12 @@
 -- Asking until a member matches, entry by entry and member by member: whether the answer comes, and how many patterns were tried.
 use Prim.Native.Nat.{ℕ, suc, _+_, _-_, _*_, _≤_, _<_}
 use mathlib.Core.Path.{_≡_, refl, sym, ap, _∙_}
-use mathlib.Core.Bool.{Bool, true, false, true≢false, false≢true}
+use mathlib.Core.Bool.{Bool, true, false, not, true≢false, false≢true}
 use mathlib.Core.List.{List, [], _∷_, _++_, map, flatMap}
 use native.Mathlib.Omega.{arith}
 use native.Mathlib.Nat.{add-zero, zero-add}
 use native.Mathlib.Numerals.{add-one}
+use lib.Dec.{eqb}
 use lib.ListN.{length, getD, drop, drop-of-length-le}
 use lib.Seq.{drop-cons}
 use Rattle.base.specs.Choice.{pick}
@@ -17,14 +18,14 @@ use Rattle.meaning.specs.Sections.{Node, Entry}
 use Rattle.meaning.specs.Building.{noEntry}
 use Rattle.meaning.specs.Satisfying.{satisfies}
 use Rattle.meaning.specs.Fair.{isMember}
-use Rattle.meaning.specs.Routing.{membersOf, answerComes, anyYes, untilYes, triedUntilWanted}
-use Rattle.laws.specs.Wanted.{until-few, comes-long}
+use Rattle.meaning.specs.Routing.{membersOf, tableRoute, membersSay, answerComes, untilYes, triedUntilWanted}
+use Rattle.laws.specs.WantedRoutes.{anyYes, answer-routed, until-few, comes-long}
 use Rattle.matching.specs.declared.Tried.{Tried}
-use Rattle.routing.specs.Tabling.{memberTry, tried-for-few}
+use Rattle.routing.specs.Tabling.{tryIf, memberTry, tried-for-few}
 
 -- asking in turn, after n tries, until one says yes
 unfoldable pub askInTurn : List Bool → ℕ → Tried
-askInTurn saids n = record { yes = anyYes saids; tried = n + untilYes saids }
+askInTurn answers n = record { yes = anyYes answers; tried = n + untilYes answers }
 
 -- nothing is left to ask
 none-asked : (n : ℕ) → askInTurn [] n ≡ record { yes = false; tried = n }
@@ -32,50 +33,49 @@ unfolding askInTurn anyYes untilYes some
 none-asked n = ap (λ (m : ℕ). record { yes = false; tried = m }) (add-zero n)
 
 -- one says yes: nothing is asked afterwards
-yes-asked : (saids : List Bool) (n : ℕ) → askInTurn (true ∷ saids) n ≡ record { yes = true; tried = n + 1 }
+yes-asked : (answers : List Bool) (n : ℕ) → askInTurn (true ∷ answers) n ≡ record { yes = true; tried = n + 1 }
 unfolding askInTurn anyYes untilYes some pick
-yes-asked saids n = refl
+yes-asked answers n = refl
 
 -- one says no
-no-asked : (saids : List Bool) (n : ℕ) → askInTurn (false ∷ saids) n ≡ askInTurn saids (n + 1)
+no-asked : (answers : List Bool) (n : ℕ) → askInTurn (false ∷ answers) n ≡ askInTurn answers (n + 1)
 unfolding askInTurn anyYes untilYes some pick
-no-asked saids n = ap (λ (m : ℕ). record { yes = anyYes saids; tried = m }) (omega arith)
+no-asked answers n = ap (λ (m : ℕ). record { yes = anyYes answers; tried = m }) (omega arith)
 
 -- the answer comes among the first
-first-asked : (saids more : List Bool) (n : ℕ) → askInTurn saids n .yes ≡ true → askInTurn (saids ++ more) n ≡ askInTurn saids n
+first-asked : (answers more : List Bool) (n : ℕ) → askInTurn answers n .yes ≡ true → askInTurn (answers ++ more) n ≡ askInTurn answers n
 unfolding askInTurn anyYes some
 first-asked [] more n h = absurd (false≢true h)
-first-asked (true ∷ saids) more n h = yes-asked (saids ++ more) n ∙ sym (yes-asked saids n)
-first-asked (false ∷ saids) more n h = no-asked (saids ++ more) n ∙ first-asked saids more (n + 1) h ∙ sym (no-asked saids n)
+first-asked (true ∷ answers) more n h = yes-asked (answers ++ more) n ∙ sym (yes-asked answers n)
+first-asked (false ∷ answers) more n h = no-asked (answers ++ more) n ∙ first-asked answers more (n + 1) h ∙ sym (no-asked answers n)
 
 -- it doesn't, and the others follow
-then-asked : (saids more : List Bool) (n : ℕ) → askInTurn saids n .yes ≡ false → askInTurn (saids ++ more) n ≡ askInTurn more (askInTurn saids n .tried)
+then-asked : (answers more : List Bool) (n : ℕ) → askInTurn answers n .yes ≡ false → askInTurn (answers ++ more) n ≡ askInTurn more (askInTurn answers n .tried)
 unfolding askInTurn anyYes some
 then-asked [] more n h = ap (askInTurn more) (ap (λ (q : Tried). q .tried) (sym (none-asked n)))
-then-asked (true ∷ saids) more n h = absurd (true≢false h)
-then-asked (false ∷ saids) more n h =
-    no-asked (saids ++ more) n ∙ then-asked saids more (n + 1) h ∙ ap (λ (q : Tried). askInTurn more (q .tried)) (sym (no-asked saids n))
+then-asked (true ∷ answers) more n h = absurd (true≢false h)
+then-asked (false ∷ answers) more n h =
+    no-asked (answers ++ more) n ∙ then-asked answers more (n + 1) h ∙ ap (λ (q : Tried). askInTurn more (q .tried)) (sym (no-asked answers n))
 
--- ---- one try in turn, where b says whether it is a member's
+-- ---- one try in turn, where there is one
 
 -- it says yes
-try-yes : (b said : Bool) (more : List Bool) (n : ℕ) → (let q : Tried = pick b (record { yes = said; tried = n + 1 }) (record { yes = false; tried = n }) in
-    q .yes ≡ true → q ≡ askInTurn (pick b (said ∷ more) more) n)
-unfolding pick
+try-yes : (b said : Bool) (more : List Bool) (n : ℕ) → tryIf b said n .yes ≡ true → tryIf b said n ≡ askInTurn (pick b (said ∷ more) more) n
+unfolding tryIf pick
 try-yes true true more n h = sym (yes-asked more n)
 try-yes true false more n h = absurd (false≢true h)
 try-yes false said more n h = absurd (false≢true h)
 
 -- it says no, or isn't asked
-try-no : (b said : Bool) (more : List Bool) (n : ℕ) → (let q : Tried = pick b (record { yes = said; tried = n + 1 }) (record { yes = false; tried = n }) in
-    q .yes ≡ false → askInTurn (pick b (said ∷ more) more) n ≡ askInTurn more (q .tried))
-unfolding pick
+try-no : (b said : Bool) (more : List Bool) (n : ℕ) → tryIf b said n .yes ≡ false
+    → askInTurn (pick b (said ∷ more) more) n ≡ askInTurn more (tryIf b said n .tried)
+unfolding tryIf pick
 try-no true true more n h = absurd (true≢false h)
 try-no true false more n h = no-asked more n
 try-no false said more n h = refl
 
-try-few : (b said : Bool) (n : ℕ) → (let q : Tried = pick b (record { yes = said; tried = n + 1 }) (record { yes = false; tried = n }) in q .tried ≤ n + 1)
-unfolding pick
+try-few : (b said : Bool) (n : ℕ) → tryIf b said n .tried ≤ n + 1
+unfolding tryIf pick
 try-few true said n = omega arith
 try-few false said n = omega arith
 
@@ -89,14 +89,10 @@ module _ (ns : List Node) (ps : List Forest) where
   unfoldable pub membersSayFrom : ℕ → ℕ → List Bool
   membersSayFrom members i = map own (keep (isMember members) (numbersFrom i (length ps - i)))
 
-  -- what all of them say
-  unfoldable pub membersSay : ℕ → List Bool
-  membersSay members = map own (membersOf (length ps) members)
-
   -- the members from i on give what all give; at most one try for each so far
   pub record SeekingMembers (members n₀ i n : ℕ) : Type 0 where
     pub few : n ≤ n₀ + i
-    pub left : askInTurn (membersSayFrom members i) n ≡ askInTurn (membersSay members) n₀
+    pub left : askInTurn (membersSayFrom members i) n ≡ askInTurn (membersSay ns ps members) n₀
 
   -- the first of them is left out where it is no member
   members-split : (members i : ℕ) → i < length ps
@@ -206,8 +202,8 @@ module _ {ns : List Node} {ps : List Forest} {es : List Entry} where
     unfolding entriesSayFrom flatMap
     seeking-entries-ends h = sym (none-asked n) ∙ sym (rw (drop-of-length-le es h)) ∙ turn .left
 
--- so it is known whether the answer comes, and how many were tried
+-- so it is known whether the route by the table is not 0, and how many were tried for it
 pub all-asked : (ns : List Node) (ps : List Forest) (es : List Entry) {q : Tried} → q ≡ askInTurn (flatMap (answerComes ns ps) es) 0
-    → (q .yes ≡ anyYes (flatMap (answerComes ns ps) es)) × (q .tried ≡ triedUntilWanted ns es ps)
+    → (q .yes ≡ not (eqb (tableRoute ns es ps) 0)) × (q .tried ≡ triedUntilWanted ns es ps)
 unfolding askInTurn triedUntilWanted
-all-asked ns ps es h = (ap (λ (q : Tried). q .yes) h, ap (λ (q : Tried). q .tried) h ∙ zero-add _)
+all-asked ns ps es h = (ap (λ (q : Tried). q .yes) h ∙ answer-routed ns ps es, ap (λ (q : Tried). q .tried) h ∙ zero-add _)

@@ -1,9 +1,9 @@
 // Routing: which subscriptions of a sheet a document is delivered to, and whether there is one.
-pub mod by_table; // by_table.rt: entries tried, and the members of each that matches
-pub mod wanting; // wanting.rt: the same until a member matches
+mod by_table; // by_table.rt: entries tried, and the members of each that matches
+mod wanting; // wanting.rt: the same until a member matches
 
 use crate::by_table::ask_entries;
-use crate::wanting::try_entries;
+use crate::wanting::seek_entries;
 use base::Cur;
 use documents::document;
 use documents::node_count;
@@ -30,6 +30,13 @@ ghost use Rattle.reading.specs.SheetJudged.{SheetStands};
 ghost use Rattle.documents.specs.DocumentJudged.{NodesStand};
 ghost use Rattle.routing.specs.Plain.{numberedAnswer};
 ghost use Rattle.routing.specs.ThreeJudged.{threePlace};
+ghost use Rattle.routing.specs.Sought.{soughtAnswer};
+
+// Whether anyone wants a document, and how many patterns were tried until that was known.
+pub enum Sought {
+    Refused(u8),
+    Told { yes: bool, tried: usize },
+}
 
 // Does the document whose n nodes stand from a place on satisfy the pattern at x of the sheet?
 fn ask(s: &[u8], x: usize, d: &[u8], at: usize, n: usize) -> bool
@@ -123,13 +130,13 @@ pub fn table_route(s: &[u8], t: &[u8], d: &[u8]) -> Tabled
     }
 }
 
-// Does at least one shed take the document?
-pub fn wanted(s: &[u8], t: &[u8], d: &[u8]) -> Asked
-    ensures { λ r. ⌜ r ≡ wantedAnswer (now (s .entry)) (now (t .entry)) (now (d .entry)) ⌝ }
+// Does at least one shed take the document, and how many patterns were tried until that was known?
+fn seek(s: &[u8], t: &[u8], d: &[u8]) -> Sought
+    ensures { λ r. ⌜ r ≡ soughtAnswer (now (s .entry)) (now (t .entry)) (now (d .entry)) ⌝ }
 {
     match sheet_table_and_document(s, t, d) {
         Cur::At(x) => {
-            let asked = try_entries(
+            let asked = seek_entries(
                 s,
                 subscriptions_in(s),
                 t,
@@ -138,8 +145,21 @@ pub fn wanted(s: &[u8], t: &[u8], d: &[u8]) -> Asked
                 node_place(d),
                 node_count(d),
             );
-            Asked::Said(asked.yes)
+            Sought::Told {
+                yes: asked.yes,
+                tried: asked.tried,
+            }
         }
-        Cur::No(m) => Asked::Refused(m),
+        Cur::No(m) => Sought::Refused(m),
+    }
+}
+
+// Does at least one shed take the document?
+pub fn wanted(s: &[u8], t: &[u8], d: &[u8]) -> Asked
+    ensures { λ r. ⌜ r ≡ wantedAnswer (now (s .entry)) (now (t .entry)) (now (d .entry)) ⌝ }
+{
+    match seek(s, t, d) {
+        Sought::Refused(m) => Asked::Refused(m),
+        Sought::Told { yes, tried } => Asked::Said(yes),
     }
 }

@@ -7,19 +7,20 @@ use subscriptions::Subscriptions;
 use tables::Entries;
 use tables::entry_at;
 ghost use mathlib.Core.Path.{_≡_};
-ghost use mathlib.Core.List.{flatMap};
+ghost use mathlib.Core.Bool.{not};
+ghost use lib.Dec.{eqb};
 ghost use Prim.Native.Nat.{_^_, _<_};
-ghost use Rattle.meaning.specs.Routing.{answerComes, anyYes, triedUntilWanted};
+ghost use Rattle.meaning.specs.Routing.{tableRoute, membersSay, answerComes, triedUntilWanted};
 ghost use Rattle.shapes.specs.Shapes.{nodesAt, entryOf, WellFormed};
 ghost use Rattle.reading.specs.SheetPlaces.{sheetAt};
 ghost use Rattle.subscriptions.specs.Subscribed.{SubscriptionsStand};
 ghost use Rattle.tables.specs.TableSection.{tableAt};
 ghost use Rattle.tables.specs.TableJudged.{EntriesStand};
 ghost use Rattle.documents.specs.DocumentJudged.{NodesStand};
-ghost use Rattle.routing.specs.Wanting.{askInTurn, membersSay};
+ghost use Rattle.routing.specs.Wanting.{askInTurn};
 
 // Members are tried until one matches.
-fn try_members(
+fn seek_members(
     s: &[u8],
     subscriptions: Subscriptions,
     d: &[u8],
@@ -49,7 +50,7 @@ fn try_members(
 }
 
 // An entry is tried, and if it matches its members until one does. That the entry matches decides nothing.
-fn try_entry(
+fn seek_entry(
     s: &[u8],
     subscriptions: Subscriptions,
     d: &[u8],
@@ -63,13 +64,13 @@ fn try_entry(
 {
     let asked = try_pattern(d, at, n, e.pattern, tried);
     if asked.yes {
-        return try_members(s, subscriptions, d, at, n, e.members, asked.tried);
+        return seek_members(s, subscriptions, d, at, n, e.members, asked.tried);
     }
     asked
 }
 
 // Entries are tried until a member of one matches: whether one does, and how many patterns were tried.
-pub fn try_entries(
+pub fn seek_entries(
     s: &[u8],
     subscriptions: Subscriptions,
     t: &[u8],
@@ -79,14 +80,14 @@ pub fn try_entries(
     n: usize,
 ) -> Tried
     requires { ⌜ SubscriptionsStand (now s) subscriptions × EntriesStand (now t) entries × NodesStand (now d) at n ⌝ }
-    ensures { λ r. ⌜ (r .yes ≡ anyYes (flatMap (answerComes (nodesAt (now (d .entry)) at n) (sheetAt (now (s .entry)) .patterns)) (tableAt (now (t .entry)))))
+    ensures { λ r. ⌜ (r .yes ≡ not (eqb (tableRoute (nodesAt (now (d .entry)) at n) (tableAt (now (t .entry))) (sheetAt (now (s .entry)) .patterns)) 0))
         × (r .tried ≡ triedUntilWanted (nodesAt (now (d .entry)) at n) (tableAt (now (t .entry))) (sheetAt (now (s .entry)) .patterns)) ⌝ }
 {
     let mut so_far = 0;
     let mut j = 0;
     while j < entries.count {
         let e = entry_at(t, entries.places[j]);
-        let asked = try_entry(s, subscriptions, d, at, n, e, so_far);
+        let asked = seek_entry(s, subscriptions, d, at, n, e, so_far);
         if asked.yes {
             return asked;
         }

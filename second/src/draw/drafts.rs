@@ -38,7 +38,7 @@ pub fn draft(random: &mut Random, letter: u8, size: Size) -> Draft {
     if has(Part::Document) {
         draft.document = document(random, &draft.sheet);
     }
-    // Where one is enough, every other hides a member that is forgotten.
+    // One match is enough, so another would hide a forgotten member.
     if letter == b'W' && random.one_in(2) {
         leave_one(random, &mut draft.sheet, &draft.document);
     }

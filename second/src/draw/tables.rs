@@ -76,7 +76,7 @@ fn loosen(random: &mut Random, sheet: &Sheet, entries: &mut Vec<Entry>) {
     }
 }
 
-/// An entry that is wider matches documents that none of its members does.
+/// A wider entry may match documents that none of its members matches.
 fn widen(random: &mut Random, entry: &mut Entry) {
     let steps = listed(&entry.pattern);
     entry.pattern = planted(&wider(random, &steps));

@@ -1,30 +1,19 @@
--- `routing::wanted` meets its contract: by the place that was reached.
-use mathlib.Core.Path.{sym, _∙_}
+-- `routing::wanted` meets its contract: what was sought, without the tries.
+use mathlib.Core.Path.{ap, sym, _∙_}
 use borrow.Author.Needs.{needs}
-use Rattle.routing.specs.ThreeJudged.{three-stand}
-use Rattle.routing.specs.RouteAnswers.{wanting-refused, wanting-said}
+use Rattle.routing.specs.Sought.{withoutTries, sought-wanted}
 use Rattle.routing.proofs.wanted.Statement.{statement}
 use Rattle.routing.proofs.wanted.Tie as tie
 
-try-entries-requires : tie.Need-try-entries-requires
-try-entries-requires c κs =
-    let x = c .before .before .before .before .before in
-    let judged = sym (x .before .before .sheet-table-and-document .ensures) ∙ x .x .given .1 in
-    three-stand _ _ _ judged (c .before .before .before .subscriptions-in .ensures) (c .before .before .entries-in .ensures)
-    (c .before .node-place .ensures .0) (c .node-count .ensures .0)
-
 returns : tie.Need-returns
-returns c =
-    let x = c .before .before .before .before .before .before in
-    let judged = sym (x .before .before .sheet-table-and-document .ensures) ∙ x .x .given .1 in
-    wanting-said _ _ _ judged (c .before .before .node-place .ensures .0) (c .before .node-count .ensures .0)
-    (c .try-entries .ensures .0)
+unfolding withoutTries
+returns c = ap withoutTries (sym (c .before .m .given .1) ∙ c .before .before .before .seek .ensures) ∙ sought-wanted _ _ _
 
 returns-2 : tie.Need-returns-2
-returns-2 c = wanting-refused _ _ _ (sym (c .before .before .before .sheet-table-and-document .ensures) ∙ c .before .m .given .1)
+unfolding withoutTries
+returns-2 c = ap withoutTries (sym (c .before .yes .given .1) ∙ c .before .before .before .seek .ensures) ∙ sought-wanted _ _ _
 
 pub wanted-spec : {M : Type 1} → statement M
 wanted-spec =
     tie.close
-    (tie.spec (λ c κs. search needs) (λ c. search needs) (λ c κs. search needs) (λ c κs. search needs) (λ c κs. search needs)
-    (λ c κs. search needs) try-entries-requires (λ c. search needs) returns returns-2)
+    (tie.spec (λ c κs. search needs) (λ c. search needs) (λ c. search needs) returns returns-2)

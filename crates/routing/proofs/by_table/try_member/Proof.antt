@@ -1,6 +1,6 @@
 -- `routing::by_table::try_member` meets its contract: a member is tried, another is left.
 use borrow.Author.Needs.{needs}
-use Rattle.routing.specs.Tabling.{member-tried, member-not-tried}
+use Rattle.routing.specs.Tabling.{try-of-member, try-of-another}
 use Rattle.routing.proofs.by_table.try_member.Statement.{statement}
 use Rattle.routing.proofs.by_table.try_member.Tie as tie
 
@@ -12,11 +12,11 @@ try-pattern-requires c κs =
 returns : tie.Need-returns
 returns c =
     let tried = c .try-pattern .ensures in
-    member-tried _ _ _ _ (c .before .before .before .is-member .ensures) (c .before .before .if1 .taken)
+    try-of-member _ _ _ _ (c .before .before .before .is-member .ensures) (c .before .before .if1 .taken)
     (rw (← (c .before .pattern-at .ensures)) (tried .0), tried .1)
 
 returns-2 : tie.Need-returns-2
-returns-2 c = member-not-tried _ _ _ (c .before .is-member .ensures) (c .if1 .left)
+returns-2 c = try-of-another _ _ _ (c .before .is-member .ensures) (c .if1 .left)
 
 pub try-member-spec : {M : Type 1} → statement M
 try-member-spec =

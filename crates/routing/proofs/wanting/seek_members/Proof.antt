@@ -1,4 +1,4 @@
--- `routing::wanting::try_members` meets its contract: asking from subscription i on gives what asking all gives.
+-- `routing::wanting::seek_members` meets its contract: asking from subscription i on gives what asking all gives.
 use Prim.Native.Nat.{_-_}
 use mathlib.Core.Path.{ap}
 use native.Mathlib.Omega.{arith}
@@ -6,8 +6,8 @@ use Rattle.meaning.specs.Satisfying.{satisfies}
 use Rattle.shapes.specs.Shapes.{nodesAt}
 use Rattle.reading.specs.SheetPlaces.{sheetAt}
 use Rattle.routing.specs.Wanting.{SeekingMembers, seeking-starts, seeking-stops, seeking-goes-on, seeking-ends}
-use Rattle.routing.proofs.wanting.try_members.Statement.{statement}
-use Rattle.routing.proofs.wanting.try_members.Tie as tie
+use Rattle.routing.proofs.wanting.seek_members.Statement.{statement}
+use Rattle.routing.proofs.wanting.seek_members.Tie as tie
 
 abbrev Inv-loop : tie.InvT-loop
 Inv-loop s d at n members tried subscriptions so-far₀ i₀ so-far i = SeekingMembers (nodesAt d at n) (sheetAt s .patterns) members tried i so-far
@@ -41,8 +41,8 @@ loop-again c =
 returns-2 : tie.Need-returns-2 Inv-loop μ-loop
 returns-2 c = seeking-ends (c .before .loop .inv) (omega (arith, c .before .before .before .before .pre .0 .counted))
 
-pub try-members-spec : {M : Type 1} → statement M
-try-members-spec =
+pub seek-members-spec : {M : Type 1} → statement M
+seek-members-spec =
     tie.close
     (tie.spec Inv-loop μ-loop
     loop-holds

@@ -15,24 +15,26 @@ use Rattle.base.specs.Lists.{some, total, numbersFrom}
 use Rattle.base.specs.Mapping.{getD-map}
 use Rattle.base.specs.ListLaws.{some-gives, some-of, some-append, keep-gives, keep-of, numbersFrom-gives, numbersFrom-of}
 use Rattle.meaning.specs.Forest.{Forest, none}
-use Rattle.meaning.specs.Reader.{Reading, read, refused}
-use Rattle.meaning.specs.Sections.{Sheet, sheet, Document, document, Node, Entry}
+use Rattle.meaning.specs.Sections.{Node, Entry}
 use Rattle.meaning.specs.Satisfying.{satisfies, parentsOf}
 use Rattle.meaning.specs.Fair.{isMember, hasMember, fair}
 use Rattle.meaning.specs.Routing.{deliverySet, plainRoute, membersOf, matchesFor, deliveredFrom, tableRoute, triedFor, tried}
-use Rattle.meaning.specs.Routing.{wanted, answerComes, anyYes, untilYes, triedUntilWanted}
-use Rattle.meaning.specs.Calls.{judged, fairTable, threeJudged, tableAnswer, wantedAnswer}
+use Rattle.meaning.specs.Routing.{wanted, membersSay, answerComes, untilYes, triedUntilWanted}
+use Rattle.meaning.specs.Calls.{tableAnswer, wantedAnswer}
 use Rattle.meaning.specs.declared.Asked.{Asked}
 use Rattle.meaning.specs.declared.Asked.the-variants as asked
 use Rattle.meaning.specs.declared.Tabled.{Tabled}
 use Rattle.meaning.specs.declared.Tabled.the-variants as tabled
 use Rattle.laws.specs.Rising.{Rising}
-use Rattle.laws.specs.JudgingGives.{document-rises}
-use Rattle.laws.specs.Routes.{table-is-plain, delivered-long, delivered-at, fair-table-fair}
+use Rattle.laws.specs.Routes.{table-is-plain, delivered-long, delivered-at}
+use Rattle.laws.specs.ThreeParts.{three-map}
 
 -- ---- at least one says yes
 
--- where one says yes, there is one
+unfoldable pub anyYes : List Bool → Bool
+anyYes answers = some (λ said. said) answers
+
+-- where at least one says yes, the place of one
 any-gives : (bs : List Bool) → anyYes bs ≡ true → (j : ℕ) × (j < length bs) × (getD bs j false ≡ true)
 unfolding anyYes some
 any-gives [] h = absurd (false≢true h)
@@ -91,7 +93,7 @@ module _ (ns : List Node) (ps : List Forest) where
 
   -- at an entry if it matches, and one of its members does
   comes-gives : (e : Entry) → anyYes (answerComes ns ps e) ≡ true → (i : ℕ) × (i < length ps) × (matchesFor ns i e ≡ true) × (own i ≡ true)
-  unfolding answerComes anyYes some matchesFor hasMember membersOf pick
+  unfolding answerComes membersSay anyYes some matchesFor hasMember membersOf pick
   comes-gives e h = go (satisfies ns (e .pattern)) refl h
     where
       go : (b : Bool) → satisfies ns (e .pattern) ≡ b → anyYes (pick b (map own (membersOf (length ps) (e .members))) []) ≡ true
@@ -103,7 +105,7 @@ module _ (ns : List Node) (ps : List Forest) where
       go false s k = absurd (false≢true k)
 
   comes-of : (e : Entry) (i : ℕ) → i < length ps → matchesFor ns i e ≡ true → own i ≡ true → anyYes (answerComes ns ps e) ≡ true
-  unfolding answerComes anyYes some matchesFor hasMember membersOf pick
+  unfolding answerComes membersSay anyYes some matchesFor hasMember membersOf pick
   comes-of e i l h yes′ =
       let is-member = and-first (isMember (e .members) i) (satisfies ns (e .pattern)) h in
       let member = keep-of (isMember (e .members)) (numbersFrom-of 0 (length ps) i (omega arith) (omega arith)) is-member in
@@ -156,7 +158,7 @@ module _ (ns : List Node) (ps : List Forest) where
 
   -- for an entry
   pub comes-long : (e : Entry) → length (answerComes ns ps e) ≡ 1 + triedFor ns (length ps) e
-  unfolding answerComes triedFor pick
+  unfolding answerComes membersSay triedFor pick
   comes-long e = go (satisfies ns (e .pattern))
     where
       go : (b : Bool) → suc (length (pick b (map own (membersOf (length ps) (e .members))) [])) ≡ 1 + pick b (length (membersOf (length ps) (e .members))) 0
@@ -182,34 +184,12 @@ module _ (ns : List Node) (ps : List Forest) where
 -- ---- on bytes
 
 -- whether the route by a table is not 0; refused where it is
-unfoldable pub notZero : Tabled → Asked
-notZero (tabled.Refused n) = asked.Refused n
-notZero (tabled.Delivered set tried) = asked.Said (not (eqb set 0))
+unfoldable pub routeNotZero : Tabled → Asked
+routeNotZero (tabled.Refused n) = asked.Refused n
+routeNotZero (tabled.Delivered set tried) = asked.Said (not (eqb set 0))
 
 -- what is answered is that, for any bytes at all
-pub wanted-by-table : (s t d : List ℕ) → wantedAnswer s t d ≡ notZero (tableAnswer s t d)
-unfolding wantedAnswer tableAnswer threeJudged judged notZero
-wanted-by-table s t d = by-sheet (sheet s)
-  where
-    said : Sheet → Document → Asked
-    said sh dc = asked.Said (wanted (dc .nodes) (sh .patterns))
-
-    route : Sheet → List Entry → Document → Tabled
-    route sh es dc = tabled.Delivered (tableRoute (dc .nodes) es (sh .patterns)) (tried (dc .nodes) es (sh .patterns))
-
-    by-document : (sh : Sheet) (es : List Entry) → fair (sh .patterns) es ≡ true → (m : Reading Document) → document sh d ≡ m
-        → judged m asked.Refused (said sh) ≡ notZero (judged m tabled.Refused (route sh es))
-    by-document sh es just (read dc left) e = ap asked.Said (wanted-routed (dc .nodes) (sh .patterns) es (document-rises sh d left dc e) just)
-    by-document sh es just (refused n) e = refl
-
-    by-fair : (sh : Sheet) (m : Reading (List Entry)) → fairTable sh t ≡ m
-        → judged m asked.Refused (λ es. judged (document sh d) asked.Refused (said sh))
-        ≡ notZero (judged m tabled.Refused (λ es. judged (document sh d) tabled.Refused (route sh es)))
-    by-fair sh (read es left) e = by-document sh es (fair-table-fair sh t left es e) (document sh d) refl
-    by-fair sh (refused n) e = refl
-
-    by-sheet : (m : Reading Sheet)
-        → judged m asked.Refused (λ sh. judged (fairTable sh t) asked.Refused (λ es. judged (document sh d) asked.Refused (said sh)))
-        ≡ notZero (judged m tabled.Refused (λ sh. judged (fairTable sh t) tabled.Refused (λ es. judged (document sh d) tabled.Refused (route sh es))))
-    by-sheet (read sh left) = by-fair sh (fairTable sh t) refl
-    by-sheet (refused n) = refl
+pub wanted-by-table : (s t d : List ℕ) → wantedAnswer s t d ≡ routeNotZero (tableAnswer s t d)
+unfolding wantedAnswer tableAnswer routeNotZero
+wanted-by-table s t d =
+    sym (three-map routeNotZero (λ n. refl) (λ sh es dc just up. ap asked.Said (sym (wanted-routed (dc .nodes) (sh .patterns) es up just))) s t d)
