@@ -23,9 +23,11 @@ use Rattle.routing.specs.declared.Sought.{Sought}
 use Rattle.routing.specs.declared.Sought.the-variants as sought
 use Rattle.routing.specs.ThreeJudged.{threePlace, three-judged, three-nodes, three-fair}
 
+-- whether anyone wants the document, and the tries until the answer comes
 abbrev told : Sheet → List Entry → Document → Sought
 told sh es dc = sought.Told (wanted (dc .nodes) (sh .patterns)) (triedUntilWanted (dc .nodes) es (sh .patterns))
 
+-- the same from bytes, judged as for the route by a table
 unfoldable pub soughtAnswer : List ℕ → List ℕ → List ℕ → Sought
 soughtAnswer = threeJudged sought.Refused told
 
@@ -35,6 +37,7 @@ withoutTries (sought.Refused n) = asked.Refused n
 withoutTries (sought.Told yes′ tried) = asked.Said yes′
 
 module _ (s t d : List ℕ) where
+  -- the hub's answer
   pub sought-wanted : withoutTries (soughtAnswer s t d) ≡ wantedAnswer s t d
   unfolding soughtAnswer wantedAnswer withoutTries
   sought-wanted = three-map withoutTries (λ n. refl) (λ sh es dc just up. refl) s t d
