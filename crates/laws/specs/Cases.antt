@@ -24,8 +24,8 @@ use Rattle.meaning.specs.LabelBytes.{labelAt}
 use Rattle.meaning.specs.Written.{stepBytes, patternBytes, numberBytes, entryBytes, tableBytes}
 use Rattle.meaning.specs.Calls.{judged, fairTable, isSubscription, subscription, matchesAnswer, coversAnswer}
 use Rattle.meaning.specs.Calls.{threeJudged, Writing, writes, mergeWriting, buildWriting, plainAnswer, tableAnswer}
-use Rattle.meaning.specs.Printing.{ascii, decimalIn, decimal, axisText, labelText, several, inBrackets, branchesText}
-use Rattle.meaning.specs.Printing.{patternText, commaText, totalsText, entryText, tableText, asking, printed}
+use Rattle.meaning.specs.PatternText.{ascii, axisText, labelText, several, inBrackets, branchesText, patternText}
+use Rattle.meaning.specs.Printing.{decimalIn, decimal, commaText, totalsText, entryText, tableText, asking, printed}
 use Rattle.meaning.specs.declared.Asked.{Asked}
 use Rattle.meaning.specs.declared.Asked.the-variants as asked
 use Rattle.meaning.specs.declared.Routed.{Routed}

@@ -26,7 +26,7 @@ use Rattle.meaning.specs.Written.{stepBytes, patternBytes}
 use Rattle.meaning.specs.Calls.{judged, fairTable, threeJudged, isSubscription, subscription, sheetNumber, documentNumber, tableNumber}
 use Rattle.meaning.specs.Calls.{matchesAnswer, wantedAnswer, withRoom, after, mergeWriting, mergeAnswer, labelNumber}
 use Rattle.meaning.specs.Given.{Given, refusal, gives, byNumber, askedGiven, RouteValues, tabledGiven}
-use Rattle.meaning.specs.Printing.{ascii}
+use Rattle.meaning.specs.PatternText.{ascii}
 use Rattle.meaning.specs.RoseBench.{sheetR, slash, slashes, a, b, c, star}
 use Rattle.meaning.specs.declared.Asked.{Asked}
 use Rattle.meaning.specs.declared.Asked.the-variants as asked

@@ -12,6 +12,7 @@ pub mod Routing
 pub mod LabelBytes
 pub mod ByBytes
 pub mod Written
+pub mod PatternText
 pub mod Calls
 pub mod Given
 pub mod Promises

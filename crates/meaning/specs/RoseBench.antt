@@ -2,7 +2,7 @@
 use Prim.Native.Nat.{ℕ}
 use mathlib.Core.List.{List, [], _∷_, _++_}
 use Rattle.meaning.specs.Forest.{near, far, Forest, none, step}
-use Rattle.meaning.specs.Printing.{ascii}
+use Rattle.meaning.specs.PatternText.{ascii}
 
 -- labels CD, SONY, Bach; s0 = /CD[/SONY][/*/Bach], s1 = //CD/Bach, s2 = /CD
 unfoldable pub sheetR : List ℕ

@@ -10,7 +10,8 @@ use Rattle.base.specs.Lists.{keep, numbersFrom}
 use Rattle.base.specs.Loops.{split, none-left}
 use Rattle.meaning.specs.Fair.{isMember}
 use Rattle.meaning.specs.Routing.{membersOf}
-use Rattle.meaning.specs.Printing.{ascii, decimal, commaText}
+use Rattle.meaning.specs.PatternText.{ascii}
+use Rattle.meaning.specs.Printing.{decimal, commaText}
 use Rattle.texts.specs.Wanted.{byteIf}
 
 -- numbers in decimal: a comma before each, the first only where one has been put already

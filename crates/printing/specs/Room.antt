@@ -19,7 +19,8 @@ use Rattle.meaning.specs.Building.{Table, entrySteps, stepsTogether}
 use Rattle.meaning.specs.Fair.{isMember}
 use Rattle.meaning.specs.Routing.{membersOf}
 use Rattle.meaning.specs.LabelBytes.{labelAt}
-use Rattle.meaning.specs.Printing.{ascii, decimal, axisText, labelText, several, inBrackets, branchesText, patternText}
+use Rattle.meaning.specs.PatternText.{ascii, axisText, labelText, several, inBrackets, branchesText, patternText}
+use Rattle.meaning.specs.Printing.{decimal}
 use Rattle.meaning.specs.Printing.{commaText, totalsText, entryText, tableText, refusedText}
 use Rattle.texts.specs.Decimals.{digits}
 use Rattle.texts.specs.Wanted.{byteIf}

@@ -7,7 +7,8 @@ use Rattle.base.specs.Storing.{partsFrom, parts-go-on, parts-end, flatMap-map}
 use Rattle.meaning.specs.Sections.{Sheet}
 use Rattle.meaning.specs.Building.{stepsTogether}
 use Rattle.meaning.specs.Building
-use Rattle.meaning.specs.Printing.{ascii, decimal, totalsText, entryText, tableText}
+use Rattle.meaning.specs.PatternText.{ascii}
+use Rattle.meaning.specs.Printing.{decimal, totalsText, entryText, tableText}
 use Rattle.shapes.specs.Shapes.{entryOf, entriesIn, tableOf, WellFormedTable}
 use Rattle.shapes.specs.TableValues.{entries-fit, length-table}
 use Rattle.shapes.specs.declared.Entry.{Entry}

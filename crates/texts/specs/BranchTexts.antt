@@ -8,7 +8,7 @@ use borrow.Author.Tests.{lt-ltb}
 use lib.Dec.{ltb}
 use lib.ListN.{length}
 use Rattle.meaning.specs.Forest.{axisOf, Forest, none, step, childrenIn, forest, stepsOf, stepsFrom}
-use Rattle.meaning.specs.Printing.{ascii, axisText, labelText, several, inBrackets, branchesText, patternText}
+use Rattle.meaning.specs.PatternText.{ascii, axisText, labelText, several, inBrackets, branchesText, patternText}
 use Rattle.meaning.specs.declared.Step.{Step}
 use Rattle.laws.specs.Children.{childrenFrom, childrenOf}
 use Rattle.shapes.specs.Shapes.{stepsIn, patternOf, WellFormed}

@@ -7,7 +7,7 @@ use lib.ListN.{getD, List·getD-eq-default}
 use Rattle.base.specs.Standing.{placeAfter, length-standing, getD-standing}
 use Rattle.meaning.specs.Forest.{axisOf}
 use Rattle.meaning.specs.LabelBytes.{labelAt}
-use Rattle.meaning.specs.Printing.{ascii, axisText, labelText}
+use Rattle.meaning.specs.PatternText.{ascii, axisText, labelText}
 use Rattle.labels.specs.LabelPlaces.{textAt, afterLabel, textsAt}
 
 -- ---- an axis

@@ -8,7 +8,7 @@ use places::byte_at;
 use shapes::Pattern;
 ghost use mathlib.Core.Path.{_≡_};
 ghost use Rattle.meaning.specs.Forest.{axisOf};
-ghost use Rattle.meaning.specs.Printing.{axisText, labelText, several, patternText};
+ghost use Rattle.meaning.specs.PatternText.{axisText, labelText, several, patternText};
 ghost use Rattle.laws.specs.Children.{childrenOf};
 ghost use Rattle.shapes.specs.Shapes.{stepsIn, patternOf, WellFormed};
 ghost use Rattle.texts.specs.PutText.{written, put};

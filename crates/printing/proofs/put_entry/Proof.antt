@@ -1,6 +1,7 @@
 -- `printing::put_entry` meets its contract. Members, a colon, the pattern, the line's end.
 use Rattle.texts.specs.PutText.{put-then}
-use Rattle.meaning.specs.Printing.{ascii, entryText}
+use Rattle.meaning.specs.PatternText.{ascii}
+use Rattle.meaning.specs.Printing.{entryText}
 use Rattle.shapes.specs.Shapes.{entryOf}
 use borrow.Author.Needs.{needs}
 use Rattle.printing.proofs.put_entry.Statement.{statement}

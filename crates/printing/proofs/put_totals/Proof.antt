@@ -1,6 +1,6 @@
 -- `printing::put_totals` meets its contract. Four numbers, each with its text.
 use Rattle.texts.specs.PutText.{put-then}
-use Rattle.meaning.specs.Printing.{ascii}
+use Rattle.meaning.specs.PatternText.{ascii}
 use Rattle.printing.specs.TableTexts.{totalsOf}
 use borrow.Author.Needs.{needs}
 use Rattle.printing.proofs.put_totals.Statement.{statement}

@@ -1,6 +1,7 @@
 -- `texts::put_refused` meets its contract. The word, and then the number and the line's end.
 use Rattle.texts.specs.PutText.{put-then}
-use Rattle.meaning.specs.Printing.{ascii, refusedText}
+use Rattle.meaning.specs.PatternText.{ascii}
+use Rattle.meaning.specs.Printing.{refusedText}
 use borrow.Author.Needs.{needs}
 use Rattle.texts.proofs.put_refused.Statement.{statement}
 use Rattle.texts.proofs.put_refused.Tie as tie

@@ -4,7 +4,7 @@ use mathlib.Core.Path.{refl}
 use native.Mathlib.Omega.{arith}
 use borrow.Author.Needs.{needs}
 use borrow.Fn.Kinds.{Out}
-use Rattle.meaning.specs.Printing.{branchesText}
+use Rattle.meaning.specs.PatternText.{branchesText}
 use Rattle.laws.specs.Children.{childrenFrom}
 use Rattle.shapes.specs.Shapes.{stepsIn}
 use Rattle.shapes.specs.Steps.{stepIn}
