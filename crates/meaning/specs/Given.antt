@@ -1,5 +1,5 @@
 -- What is given back: the number and the values. For each answer that is an enum, the paper's number and values in each
--- case: a refusal gives its number and zeros, and 0 comes with the values. Whether it is a refusal is kept beside them, so that
+-- case: a refusal gives its number and zeros (13 the place of the fault), and 0 comes with the values. Whether it is a refusal is kept beside them, so that
 -- a refusal with the number 0 is never taken for an answer.
 use Prim.Native.Nat.{ℕ}
 use mathlib.Core.Path.{_≡_}
@@ -12,6 +12,10 @@ use Rattle.meaning.specs.declared.Merged.{Merged}
 use Rattle.meaning.specs.declared.Merged.the-variants as merged
 use Rattle.meaning.specs.declared.Built.{Built}
 use Rattle.meaning.specs.declared.Built.the-variants as built
+use Rattle.meaning.specs.declared.Lined.{Lined}
+use Rattle.meaning.specs.declared.Lined.the-variants as lined
+use Rattle.meaning.specs.declared.Output.{Output}
+use Rattle.meaning.specs.declared.Output.the-variants as output
 use Rattle.meaning.specs.declared.Routed.{Routed}
 use Rattle.meaning.specs.declared.Routed.the-variants as routed
 use Rattle.meaning.specs.declared.Tabled.{Tabled}
@@ -64,6 +68,22 @@ pub record BuildValues : Type 0 where
 unfoldable pub builtGiven : Built → Given BuildValues
 builtGiven (built.Refused n) = refusal n (record { length = 0; rounds = 0 })
 builtGiven (built.Wrote long rounds) = gives (record { length = long; rounds = rounds })
+
+-- ---- a line read: the place comes with 13, how many bytes of a pattern are written
+
+pub record LineValues : Type 0 where
+  pub place : ℕ
+  pub length : ℕ
+
+unfoldable pub linedGiven : Lined → Given LineValues
+linedGiven (lined.Refused n place) = refusal n (record { place = place; length = 0 })
+linedGiven (lined.Wrote long) = gives (record { place = 0; length = long })
+
+-- ---- what is written: how many bytes
+
+unfoldable pub outputGiven : Output → Given ℕ
+outputGiven (output.Refused n) = refusal n 0
+outputGiven (output.Wrote long) = gives long
 
 -- ---- the plain route: the delivery set
 

@@ -13,7 +13,10 @@ pub mod LabelBytes
 pub mod ByBytes
 pub mod Written
 pub mod PatternText
+pub mod Notation
+pub mod Lines
 pub mod Calls
+pub mod LineCalls
 pub mod Given
 pub mod Promises
 pub mod Sharp

@@ -53,6 +53,18 @@ notThere = 11
 abbrev pub notFair : ℕ
 notFair = 12
 
+-- the line is not in the notation; comes with the place
+abbrev pub notALine : ℕ
+notALine = 13
+
+-- a label of the line is not the sheet's
+abbrev pub labelUnknown : ℕ
+labelUnknown = 14
+
+-- a label can't stand in a line
+abbrev pub notWritable : ℕ
+notWritable = 15
+
 -- ---- the limits
 abbrev pub longestLabel : ℕ
 longestLabel = 60
@@ -72,3 +84,6 @@ mostNodes = 1024
 
 abbrev pub mostEntries : ℕ
 mostEntries = 64
+
+abbrev pub longestLine : ℕ
+longestLine = 1024

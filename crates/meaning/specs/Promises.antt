@@ -5,6 +5,8 @@ use mathlib.Core.Path.{_≡_}
 use mathlib.Core.Bool.{Bool}
 use mathlib.Core.List.{List}
 use Rattle.meaning.specs.Given.{Given, askedGiven, MergeValues, mergedGiven, BuildValues, builtGiven, routedGiven, RouteValues, tabledGiven}
+use Rattle.meaning.specs.Given.{LineValues, linedGiven, outputGiven}
+use Rattle.meaning.specs.LineCalls.{lineAnswer, lineOutput, patternWriting, subscriptionWriting, outputAnswer}
 use Rattle.meaning.specs.Routing.{shedsIn, lowestShed}
 use Rattle.meaning.specs.Calls.{sheetNumber, documentNumber, tableNumber, matchesAnswer, coversAnswer, withRoom, after, mergeWriting}
 use Rattle.meaning.specs.Calls.{mergeAnswer, buildWriting, buildAnswer, plainAnswer, tableAnswer, wantedAnswer, labelNumber, labelPart}
@@ -37,6 +39,22 @@ pub record MergeGives (s : List ℕ) (i j : ℕ) (found : List ℕ) (given : Giv
 pub record BuildGives (s : List ℕ) (limit : ℕ) (found : List ℕ) (given : Given BuildValues) (left : List ℕ) : Type 0 where
   pub answer : given ≡ builtGiven (buildAnswer (withRoom found (buildWriting s limit)))
   pub output : left ≡ after found (withRoom found (buildWriting s limit))
+
+-- a line read
+
+pub record ReadLineGives (s line found : List ℕ) (given : Given LineValues) (left : List ℕ) : Type 0 where
+  pub answer : given ≡ linedGiven (lineAnswer found s line)
+  pub output : left ≡ lineOutput found s line
+
+-- a pattern and a subscription written as a line
+
+pub record WritePatternGives (s p found : List ℕ) (given : Given ℕ) (left : List ℕ) : Type 0 where
+  pub answer : given ≡ outputGiven (outputAnswer (withRoom found (patternWriting s p)))
+  pub output : left ≡ after found (withRoom found (patternWriting s p))
+
+pub record WriteSubscriptionGives (s : List ℕ) (i : ℕ) (found : List ℕ) (given : Given ℕ) (left : List ℕ) : Type 0 where
+  pub answer : given ≡ outputGiven (outputAnswer (withRoom found (subscriptionWriting s i)))
+  pub output : left ≡ after found (withRoom found (subscriptionWriting s i))
 
 -- ---- the routes
 

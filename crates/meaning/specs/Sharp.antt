@@ -4,8 +4,9 @@ use mathlib.Core.Path.{_≡_, sym, ap, _∙_}
 use mathlib.Core.Bool.{true≢false, false≢true}
 use mathlib.Core.List.{List}
 use Rattle.meaning.specs.Given.{Given, refusal, gives, byNumber, askedGiven, MergeValues, mergedGiven}
-use Rattle.meaning.specs.Given.{BuildValues, builtGiven, routedGiven, RouteValues, tabledGiven}
+use Rattle.meaning.specs.Given.{BuildValues, builtGiven, LineValues, linedGiven, outputGiven, routedGiven, RouteValues, tabledGiven}
 use Rattle.meaning.specs.Promises.{SheetCheckGives, DocumentCheckGives, TableCheckGives, MatchesGives, CoversGives, MergeGives, BuildGives}
+use Rattle.meaning.specs.Promises.{ReadLineGives, WritePatternGives, WriteSubscriptionGives}
 use Rattle.meaning.specs.Promises.{PlainRouteGives, TableRouteGives, WantedGives, ShedsGives, LowestShedGives, LabelNumberGives, LabelBytesGives}
 use Rattle.meaning.specs.declared.Asked.{Asked}
 use Rattle.meaning.specs.declared.Asked.the-variants as asked
@@ -13,6 +14,10 @@ use Rattle.meaning.specs.declared.Merged.{Merged}
 use Rattle.meaning.specs.declared.Merged.the-variants as merged
 use Rattle.meaning.specs.declared.Built.{Built}
 use Rattle.meaning.specs.declared.Built.the-variants as built
+use Rattle.meaning.specs.declared.Lined.{Lined}
+use Rattle.meaning.specs.declared.Lined.the-variants as lined
+use Rattle.meaning.specs.declared.Output.{Output}
+use Rattle.meaning.specs.declared.Output.the-variants as output
 use Rattle.meaning.specs.declared.Routed.{Routed}
 use Rattle.meaning.specs.declared.Routed.the-variants as routed
 use Rattle.meaning.specs.declared.Tabled.{Tabled}
@@ -59,6 +64,21 @@ built-tells (built.Refused n) (built.Refused m) e = ap built.Refused (same-numbe
 built-tells (built.Refused n) (built.Wrote l b) e = absurd (true≢false (same-case e))
 built-tells (built.Wrote k a) (built.Refused m) e = absurd (false≢true (same-case e))
 built-tells (built.Wrote k a) (built.Wrote l b) e = ap (λ (v : BuildValues). built.Wrote (v .length) (v .rounds)) (same-values e)
+
+pub lined-tells : (x y : Lined) → linedGiven x ≡ linedGiven y → x ≡ y
+unfolding linedGiven refusal gives
+lined-tells (lined.Refused n i) (lined.Refused m j) e =
+    λ k. lined.Refused (same-number e k) (ap (λ (v : LineValues). v .place) (same-values e) k)
+lined-tells (lined.Refused n i) (lined.Wrote l) e = absurd (true≢false (same-case e))
+lined-tells (lined.Wrote k) (lined.Refused m j) e = absurd (false≢true (same-case e))
+lined-tells (lined.Wrote k) (lined.Wrote l) e = ap (λ (v : LineValues). lined.Wrote (v .length)) (same-values e)
+
+pub output-tells : (x y : Output) → outputGiven x ≡ outputGiven y → x ≡ y
+unfolding outputGiven refusal gives
+output-tells (output.Refused n) (output.Refused m) e = ap output.Refused (same-number e)
+output-tells (output.Refused n) (output.Wrote l) e = absurd (true≢false (same-case e))
+output-tells (output.Wrote k) (output.Refused m) e = absurd (false≢true (same-case e))
+output-tells (output.Wrote k) (output.Wrote l) e = ap output.Wrote (same-values e)
 
 pub routed-tells : (x y : Routed) → routedGiven x ≡ routedGiven y → x ≡ y
 unfolding routedGiven refusal gives
@@ -120,6 +140,18 @@ module _ (s : List ℕ) where
     pub build-sharp : (limit : ℕ) (x y : Built) (u v : List ℕ) → BuildGives s limit out (builtGiven x) u
         → BuildGives s limit out (builtGiven y) v → (x ≡ y) × (u ≡ v)
     build-sharp limit x y u v e f = (built-tells x y (only-one (e .answer) (f .answer)), only-one (e .output) (f .output))
+
+    pub read-line-sharp : (line : List ℕ) (x y : Lined) (u v : List ℕ) → ReadLineGives s line out (linedGiven x) u
+        → ReadLineGives s line out (linedGiven y) v → (x ≡ y) × (u ≡ v)
+    read-line-sharp line x y u v e f = (lined-tells x y (only-one (e .answer) (f .answer)), only-one (e .output) (f .output))
+
+    pub write-pattern-sharp : (p : List ℕ) (x y : Output) (u v : List ℕ) → WritePatternGives s p out (outputGiven x) u
+        → WritePatternGives s p out (outputGiven y) v → (x ≡ y) × (u ≡ v)
+    write-pattern-sharp p x y u v e f = (output-tells x y (only-one (e .answer) (f .answer)), only-one (e .output) (f .output))
+
+    pub write-subscription-sharp : (i : ℕ) (x y : Output) (u v : List ℕ) → WriteSubscriptionGives s i out (outputGiven x) u
+        → WriteSubscriptionGives s i out (outputGiven y) v → (x ≡ y) × (u ≡ v)
+    write-subscription-sharp i x y u v e f = (output-tells x y (only-one (e .answer) (f .answer)), only-one (e .output) (f .output))
 
 -- of a delivery set
 module _ (set : ℕ) where

@@ -11,6 +11,9 @@ unfoldable pub stepBytes : Step → List ℕ
 stepBytes s = s .parent ∷ s .axis ∷ s .label ∷ []
 
 -- a step count and the steps
+unfoldable pub stepsBytes : List Step → List ℕ
+stepsBytes ss = length ss ∷ flatMap stepBytes ss
+
 unfoldable pub patternBytes : Forest → List ℕ
 patternBytes f = size f ∷ flatMap stepBytes (stepsOf f)
 

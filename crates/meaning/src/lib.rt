@@ -29,6 +29,12 @@ pub const NOT_THERE: u8 = 11;
 
 pub const NOT_FAIR: u8 = 12;
 
+pub const NOT_A_LINE: u8 = 13;
+
+pub const LABEL_UNKNOWN: u8 = 14;
+
+pub const NOT_WRITABLE: u8 = 15;
+
 // The limits.
 pub const LONGEST_LABEL: usize = 60;
 
@@ -41,6 +47,8 @@ pub const MOST_STEPS: usize = 16;
 pub const MOST_NODES: usize = 1024;
 
 pub const MOST_ENTRIES: usize = 64;
+
+pub const LONGEST_LINE: usize = 1024;
 
 // A step as it is written: the number of its parent (0: the pattern's root), its axis (0 near, 1 far), its label (0: any).
 pub struct Step {
@@ -65,6 +73,19 @@ pub enum Merged {
 pub enum Built {
     Refused(u8),
     Wrote { length: usize, rounds: usize },
+}
+
+// A line read: a refusal, with the place where the line is not in the notation and otherwise 0, or how many bytes of a
+// pattern were written.
+pub enum Lined {
+    Refused { number: u8, place: usize },
+    Wrote(usize),
+}
+
+// What is written into a lent output: a refusal, or how many bytes.
+pub enum Output {
+    Refused(u8),
+    Wrote(usize),
 }
 
 // The plain route: bit i of the set is subscription i.
