@@ -17,3 +17,7 @@ afterLabel s p = pick (ltb p (length s)) (p + 1 + getD s p 0) p
 -- n labels from the place p on
 unfoldable pub textsAt : List ℕ → ℕ → ℕ → List (List ℕ)
 textsAt s = standing (textAt s) (afterLabel s)
+
+-- the labels of the sheet s: after their count, from place 1 on
+unfoldable pub labelsIn : List ℕ → List (List ℕ)
+labelsIn s = textsAt s 1 (getD s 0 0)

@@ -1,3 +1,4 @@
 pub mod LabelPlaces
 pub mod LabelSection
 pub mod LabelLoops
+pub mod LabelNumbered

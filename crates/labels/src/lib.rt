@@ -10,7 +10,8 @@ ghost use Prim.Native.Nat.{_+_, _≤_, _<_};
 ghost use Rattle.base.specs.Lists.{some};
 ghost use Rattle.base.specs.Standing.{placeAfter};
 ghost use Rattle.meaning.specs.Sections.{sameLabel};
-ghost use Rattle.labels.specs.LabelPlaces.{textAt, afterLabel, textsAt};
+ghost use Rattle.meaning.specs.LineCalls.{numberFrom};
+ghost use Rattle.labels.specs.LabelPlaces.{textAt, afterLabel, textsAt, labelsIn};
 ghost use Rattle.labels.specs.LabelSection.{labelPlace, labelsPlace};
 
 // The bytes of the label whose length byte stands at p.
@@ -70,6 +71,23 @@ fn occurs(text: &[u8], s: &[u8], p: usize, n: usize) -> bool
         i += 1;
     }
     false
+}
+
+// The number of a text among the labels of the sheet s, 0 where it is none of them.
+pub fn number_of(text: &[u8], s: &[u8]) -> u8
+    ensures { λ r. ⌜ r ≡ numberFrom 1 (labelsIn (now (s .entry))) (now (text .entry)) ⌝ }
+{
+    let n = byte_at(s, 0);
+    let mut i = 0;
+    let mut x = 1;
+    while i < n {
+        i += 1;
+        if same_label(text, text_at(s, x)) {
+            return i as u8;
+        }
+        x = after_label(s, x);
+    }
+    0
 }
 
 // A label at x, the i-th from the place p on in d, beside the first k labels of the sheet s.

@@ -18,7 +18,7 @@ use Rattle.shapes.specs.declared.Entry.{Entry}
 use Rattle.shapes.specs.declared.Table.{Table}
 use Rattle.reading.specs.SheetPlaces.{forestAt, afterPattern, forestsAt, patternCountAt, sheetAt}
 use Rattle.texts.specs.PutText.{written, put, put-whole}
-use Rattle.texts.specs.StepTexts.{labelsIn}
+use Rattle.labels.specs.LabelPlaces.{labelsIn}
 use Rattle.printing.specs.TableTexts.{builtTable, textOf, text-of}
 use Rattle.printing.specs.ShortLabels.{Short}
 use Rattle.printing.specs.Room.{Small, table-room, refused-room}

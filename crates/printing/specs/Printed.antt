@@ -22,7 +22,7 @@ use Rattle.reading.specs.SheetJudged.{sheet-judged, SheetStands, sheet-stands}
 use Rattle.places.specs.Reached.{reached}
 use Rattle.building.specs.Counting.{buildFrom, build-from}
 use Rattle.texts.specs.PutText.{Written, put}
-use Rattle.texts.specs.StepTexts.{labelsIn}
+use Rattle.labels.specs.LabelPlaces.{labelsIn}
 use Rattle.printing.specs.TableTexts.{builtTable, textOf, text-of}
 
 -- the labels that are put are the sheet's

@@ -17,7 +17,7 @@ ghost use Rattle.meaning.specs.Routing.{membersOf};
 ghost use Rattle.meaning.specs.Printing.{commaText, entryText};
 ghost use Rattle.shapes.specs.Shapes.{entryOf, WellFormed, WellFormedTable};
 ghost use Rattle.texts.specs.PutText.{written, put};
-ghost use Rattle.texts.specs.StepTexts.{labelsIn};
+ghost use Rattle.labels.specs.LabelPlaces.{labelsIn};
 ghost use Rattle.printing.specs.TableTexts.{totalsOf, builtTable, textOf};
 
 // The members of an entry, of n subscriptions, ascending, with a comma between them; the next place.

@@ -8,7 +8,7 @@ use Rattle.base.specs.Standing.{placeAfter, length-standing, getD-standing}
 use Rattle.meaning.specs.Forest.{axisOf}
 use Rattle.meaning.specs.LabelBytes.{labelAt}
 use Rattle.meaning.specs.PatternText.{ascii, axisText, labelText}
-use Rattle.labels.specs.LabelPlaces.{textAt, afterLabel, textsAt}
+use Rattle.labels.specs.LabelPlaces.{textAt, afterLabel, textsAt, labelsIn}
 
 -- ---- an axis
 
@@ -24,10 +24,6 @@ far-text zero e = absurd (e refl)
 far-text (suc x) e = refl
 
 -- ---- a label
-
--- the labels of the sheet s: after their count, from place 1 on
-unfoldable pub labelsIn : List ℕ → List (List ℕ)
-labelsIn s = textsAt s 1 (getD s 0 0)
 
 -- label 0 is any
 pub any-text : (ls : List (List ℕ)) (l : ℕ) → l ≡ 0 → labelText ls l ≡ 42 ∷ []

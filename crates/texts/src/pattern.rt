@@ -12,7 +12,7 @@ ghost use Rattle.meaning.specs.PatternText.{axisText, labelText, several, patte
 ghost use Rattle.laws.specs.Children.{childrenOf};
 ghost use Rattle.shapes.specs.Shapes.{stepsIn, patternOf, WellFormed};
 ghost use Rattle.texts.specs.PutText.{written, put};
-ghost use Rattle.texts.specs.StepTexts.{labelsIn};
+ghost use Rattle.labels.specs.LabelPlaces.{labelsIn};
 ghost use Rattle.texts.specs.BranchTexts.{belowText, stepText};
 
 // An axis: / near, // far; the next place.

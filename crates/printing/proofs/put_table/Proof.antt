@@ -5,7 +5,7 @@ use mathlib.Core.Path.{_∙_}
 use native.Mathlib.Omega.{arith}
 use Rattle.shapes.specs.TableValues.{entry-sound}
 use Rattle.texts.specs.PutText.{LeftToPut, left-first, left-goes-on, left-none, left-same, put-then, put-is, same-room}
-use Rattle.texts.specs.StepTexts.{labelsIn}
+use Rattle.labels.specs.LabelPlaces.{labelsIn}
 use Rattle.printing.specs.TableTexts.{entriesText, entry-here, entries-end, table-text}
 use Rattle.printing.proofs.put_table.Statement.{statement}
 use Rattle.printing.proofs.put_table.Tie as tie

@@ -9,7 +9,7 @@ use Rattle.laws.specs.Children.{childrenFrom}
 use Rattle.shapes.specs.Shapes.{stepsIn}
 use Rattle.shapes.specs.Steps.{stepIn}
 use Rattle.texts.specs.PutText.{LeftToPut, left-first, left-goes-on, left-stays, left-none, left-same, put-is}
-use Rattle.texts.specs.StepTexts.{labelsIn}
+use Rattle.labels.specs.LabelPlaces.{labelsIn}
 use Rattle.texts.specs.BranchTexts.{branch-text, other-text, end-text, below-text}
 use Prim.Native.Nat.{ℕ, _-_, _≤_, _<_}
 use borrow.Fn.Kinds.{In}
