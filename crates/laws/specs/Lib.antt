@@ -46,6 +46,9 @@ pub mod ReadNumbers
 pub mod RoundTrip
 pub mod LabelsStand
 pub mod BytesDecide
+-- lines of the notation
+pub mod LineComplete
+pub mod LineMeaning
 -- what was built passes the check
 pub mod Passing
 -- routes
