@@ -58,16 +58,20 @@ first-byte : (a : Axis) (b : ℕ) (c : Stand) (o : Next) → barred b ≡ false 
 unfolding nameOr pick
 first-byte a b c o h = rw h
 
+-- one byte more of a label
+pub longer-step : (a : Axis) (c : Stand) (w : List ℕ) (b : ℕ) → longer b (stepFound inLabel a (called w) c) ≡ stepFound inLabel a (called (w ++ (b ∷ []))) c
+unfolding stepFound longer longerLast longerName
+longer-step a c w b =
+    ap (λ ds. record { mode = inLabel; here = suc (length (c .found)); opens = c .opens; found = ds })
+    (longer-last b (c .found) (record { parent = c .here; axis = a; name = called w }))
+
 -- further bytes of a label
 label-run : (a : Axis) (c : Stand) (w l : List ℕ) → writable l ≡ true → Run (stepFound inLabel a (called w) c) l (stepFound inLabel a (called (w ++ l)) c)
-unfolding next nextIn pick stepFound longer longerLast longerName
+unfolding next nextIn pick stepFound
 label-run a c w [] h = rw append-nil still
 label-run a c w (b ∷ l) h =
-    let d : Drawn = record { parent = c .here; axis = a; name = called w } in
-    let longer-by : longer b (stepFound inLabel a (called w) c) ≡ stepFound inLabel a (called (w ++ (b ∷ []))) c =
-    ap (λ ds. record { mode = inLabel; here = suc (length (c .found)); opens = c .opens; found = ds }) (longer-last b (c .found) d) in
     let one : next b (stepFound inLabel a (called w) c) ≡ to (stepFound inLabel a (called (w ++ (b ∷ []))) c) =
-    rw (writable-both b l h .0) (ap to longer-by) in
+    rw (writable-both b l h .0) (ap to (longer-step a c w b)) in
     byte one (rw append-assoc at (label-run a c (w ++ (b ∷ [])) l (writable-both b l h .1)))
 
 -- ---- what may follow in a mode
