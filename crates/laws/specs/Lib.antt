@@ -49,6 +49,7 @@ pub mod BytesDecide
 -- lines of the notation
 pub mod LineComplete
 pub mod LineMeaning
+pub mod LineSound
 -- what was built passes the check
 pub mod Passing
 -- routes
