@@ -50,6 +50,7 @@ pub mod BytesDecide
 pub mod LineComplete
 pub mod LineMeaning
 pub mod LineSound
+pub mod LinePlace
 -- what was built passes the check
 pub mod Passing
 -- routes
