@@ -11,10 +11,11 @@ use lib.ListN.{length, take, drop, take-append-drop}
 use Rattle.base.specs.Choice.{pick}
 use Rattle.base.specs.Lists.{some}
 use Rattle.meaning.specs.PatternText.{ascii}
-use Rattle.meaning.specs.Notation.{barred, Sketch, Line, Drawn, stepsDrawn, Begins, FirstFault}
+use Rattle.meaning.specs.Notation.{barred, Sketch, Line, Drawn, Begins, FirstFault}
 use Rattle.meaning.specs.Lines.{Mode, atStart, atDot, atSlash, atSlashes, opened, openedDot, openedDotSlash, ended, inLabel, Stand, start}
 use Rattle.meaning.specs.Lines.{Next, stuck, to, moved, stepFound, closes, nameOr, slashOr, branchOr, afterName, nextIn, next}
 use Rattle.meaning.specs.Lines.{LineRead, offAt, draws, followed, allClosed, mayEnd, readFrom, readAny}
+use Rattle.laws.specs.LineComplete.{line-read}
 use Rattle.laws.specs.LineSound.{fault-no-steps, read-line}
 
 -- ---- at most one first fault
@@ -108,26 +109,25 @@ stops j c (b ∷ s) i h = go (next b c) refl h (λ d. stops (suc j) d s i)
         let r = later d q in
         (suc (r .0), omega arith, one-later b (λ x g. rw e g) (λ x g. rw e at g) (completed (suc j) (d .mode) (d .here) (d .opens) (d .found)) (r .2))
 
-module _ (line-read : (s : List ℕ) (t : Sketch) → Line s t → readAny s ≡ draws (stepsDrawn t)) where
-  -- where the reader stops is the first fault
-  pub fault-place : (s : List ℕ) (i : ℕ) → readAny s ≡ offAt i → FirstFault s i
-  unfolding readAny
-  fault-place s i h =
-      let r = stops 0 start s i h in
-      let f = r .2 in
-      let e : r .0 ≡ i = omega arith in
-      subst (FirstFault s) e record {
-        before = λ k l. go k (f .before k l);
-        here = ⊎-elim (λ n. inl (n .0, λ g. n .1 (g .rest) (_, line-read _ _ (g .line)))) (λ n. inr (n .0, λ t l. n .1 (_, line-read s t l))) (f .here);
-      }
-    where
-      go : (k : ℕ) → (rest : List ℕ) × Read 0 start (take (suc k) s ++ rest) → Begins (take (suc k) s)
-      go k r = let t = read-line _ _ (r .1 .1) in record { rest = r .0; drawing = t .0; line = t .1 }
+-- where the reader stops is the first fault
+pub fault-place : (s : List ℕ) (i : ℕ) → readAny s ≡ offAt i → FirstFault s i
+unfolding readAny
+fault-place s i h =
+    let r = stops 0 start s i h in
+    let f = r .2 in
+    let e : r .0 ≡ i = omega arith in
+    subst (FirstFault s) e record {
+      before = λ k l. go k (f .before k l);
+      here = ⊎-elim (λ n. inl (n .0, λ g. n .1 (g .rest) (_, line-read _ _ (g .line)))) (λ n. inr (n .0, λ t l. n .1 (_, line-read s t l))) (f .here);
+    }
+  where
+    go : (k : ℕ) → (rest : List ℕ) × Read 0 start (take (suc k) s ++ rest) → Begins (take (suc k) s)
+    go k r = let t = read-line _ _ (r .1 .1) in record { rest = r .0; drawing = t .0; line = t .1 }
 
-  -- and the first fault is where it stops
-  pub fault-only : (s : List ℕ) (i : ℕ) → FirstFault s i → readAny s ≡ offAt i
-  fault-only s i f = go (readAny s) refl
-    where
-      go : (r : LineRead) → readAny s ≡ r → readAny s ≡ offAt i
-      go (offAt j) e = e ∙ ap offAt (one-fault (fault-place s j e) f)
-      go (draws ds) e = absurd (line-no-fault (read-line s ds e .1) f)
+-- and the first fault is where it stops
+pub fault-only : (s : List ℕ) (i : ℕ) → FirstFault s i → readAny s ≡ offAt i
+fault-only s i f = go (readAny s) refl
+  where
+    go : (r : LineRead) → readAny s ≡ r → readAny s ≡ offAt i
+    go (offAt j) e = e ∙ ap offAt (one-fault (fault-place s j e) f)
+    go (draws ds) e = absurd (line-no-fault (read-line s ds e .1) f)
