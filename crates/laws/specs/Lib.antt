@@ -45,6 +45,7 @@ pub mod SoundPatterns
 pub mod ReadNumbers
 pub mod RoundTrip
 pub mod LabelsStand
+pub mod TextRoom
 pub mod BytesDecide
 -- lines of the notation
 pub mod LineComplete

@@ -11,6 +11,7 @@ use Rattle.meaning.specs.Forest.{size}
 use Rattle.meaning.specs.Sections.{Sheet}
 use Rattle.meaning.specs.Sections
 use Rattle.meaning.specs.Printing.{tableText, refusedText}
+use Rattle.laws.specs.TextRoom.{Short}
 use Rattle.shapes.specs.Shapes.{entryOf, entriesIn, tableOf, WellFormed, WellFormedTable}
 use Rattle.shapes.specs.Steps.{count-size}
 use Rattle.shapes.specs.TableValues.{length-table}
@@ -20,7 +21,6 @@ use Rattle.reading.specs.SheetPlaces.{forestAt, afterPattern, forestsAt, patter
 use Rattle.texts.specs.PutText.{written, put, put-whole}
 use Rattle.labels.specs.LabelPlaces.{labelsIn}
 use Rattle.printing.specs.TableTexts.{builtTable, textOf, text-of}
-use Rattle.printing.specs.ShortLabels.{Short}
 use Rattle.printing.specs.Room.{Small, table-room, refused-room}
 
 -- a sheet has as many subscriptions as it counts

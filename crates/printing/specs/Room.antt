@@ -1,77 +1,25 @@
 -- How much room a text needs: 80,000 bytes are always enough for a table.
-use Prim.Native.Nat.{ℕ, zero, suc, _+_, _*_, _≤_, _<_}
+use Prim.Native.Nat.{ℕ, _*_, _≤_, _<_}
 use mathlib.Core.Path.{refl, ap}
-use mathlib.Core.Logic.{⊎-elim}
 use mathlib.Core.Bool.{Bool, true, false}
 use mathlib.Core.List.{List, [], _∷_, _++_, flatMap, List·Memᴰ, List·Memᴰ·head, List·Memᴰ·tail}
 use native.Mathlib.Omega.{arith}
-use borrow.Author.Tests.{ltb-true, ltb-false}
-use lib.Dec.{ltb}
-use lib.ListN.{length, getD, length-append, List·getD-eq-default}
-use Rattle.base.specs.Bools.{true-or-false}
+use lib.ListN.{length, length-append}
 use Rattle.base.specs.Lists.{keep, total, numbersFrom}
 use Rattle.base.specs.ListLaws.{keep-gives, length-keep, numbersFrom-gives, length-numbersFrom}
-use Rattle.base.specs.Replacing.{place-in}
 use Rattle.meaning.specs.Numbers.{mostPatterns, mostSteps, mostEntries}
-use Rattle.meaning.specs.Forest.{Axis, near, far, Forest, none, step, size}
+use Rattle.meaning.specs.Forest.{size}
 use Rattle.meaning.specs.Sections.{Sheet, Entry}
 use Rattle.meaning.specs.Building.{Table, entrySteps, stepsTogether}
 use Rattle.meaning.specs.Fair.{isMember}
 use Rattle.meaning.specs.Routing.{membersOf}
-use Rattle.meaning.specs.LabelBytes.{labelAt}
-use Rattle.meaning.specs.PatternText.{ascii, axisText, labelText, several, inBrackets, branchesText, patternText}
+use Rattle.meaning.specs.PatternText.{ascii, patternText}
 use Rattle.meaning.specs.Printing.{decimal}
 use Rattle.meaning.specs.Printing.{commaText, totalsText, entryText, tableText, refusedText}
+use Rattle.laws.specs.TextRoom.{Short, pattern-room}
 use Rattle.texts.specs.Decimals.{digits}
 use Rattle.texts.specs.Wanted.{byteIf}
 use Rattle.printing.specs.MemberTexts.{numbersText, numbers-text}
-use Rattle.printing.specs.ShortLabels.{Short}
-
--- ---- a pattern: 64 bytes a step
-
-axis-room : (a : Axis) → length (axisText a) ≤ 2
-unfolding axisText ascii
-axis-room near = omega arith
-axis-room far = omega arith
-
-brackets-room : (many : Bool) (text : List ℕ) → length (inBrackets many text) ≤ 2 + length text
-unfolding inBrackets ascii
-brackets-room true text = omega (arith, length-append text (93 ∷ []))
-brackets-room false text = omega arith
-
-module _ (ls : List (List ℕ)) (short : Short ls) where
-  label-room : (l : ℕ) → length (labelText ls l) ≤ 60
-  unfolding labelText labelAt ascii Short
-  label-room zero = omega arith
-  label-room (suc l) =
-      ⊎-elim
-      (λ e. short (getD ls l []) (place-in ls l [] (ltb-true l (length ls) e)))
-      (λ e. omega (arith, ap length (List·getD-eq-default ls [] {n = l} (ltb-false l (length ls) e))))
-      (true-or-false (ltb l (length ls)))
-
-  branches-room : (many : Bool) (f : Forest) → length (branchesText ls many f) ≤ 64 * size f
-  unfolding branchesText size
-  branches-room many none = omega arith
-  branches-room many (step a l kids later) =
-      let below = branchesText ls (several kids) kids in
-      let others = branchesText ls many later in
-      let branch = axisText a ++ (labelText ls l ++ below) in
-      omega (
-        arith,
-        length-append (inBrackets many branch) others,
-        brackets-room many branch,
-        length-append (axisText a) (labelText ls l ++ below),
-        length-append (labelText ls l) below,
-        axis-room a,
-        label-room l,
-        branches-room (several kids) kids,
-        branches-room many later,
-      )
-
-  pattern-room : (f : Forest) → size f ≤ mostSteps → length (patternText ls f) ≤ 1024
-  unfolding patternText ascii
-  pattern-room none h = omega arith
-  pattern-room (step a l kids later) h = omega (arith, branches-room (several (step a l kids later)) (step a l kids later))
 
 -- ---- members: three bytes a number below 100
 
