@@ -2,7 +2,7 @@
 use Prim.Native.Nat.{ℕ, zero, suc, _+_, _≤_, _<_}
 use mathlib.Core.Path.{_≡_, refl, sym, _∙_, ap}
 use mathlib.Core.Logic.{_⊎_, inl, inr, ⊎-elim}
-use mathlib.Core.Bool.{Bool, true, false, _||_, or-assoc, false≢true}
+use mathlib.Core.Bool.{Bool, true, false, _&&_, _||_, and-assoc, or-assoc, false≢true}
 use mathlib.Core.List.{List, [], _∷_, _++_, List·Memᴰ, List·Memᴰ·head, List·Memᴰ·tail, List·Memᴰ·cases-cons}
 use native.Mathlib.Omega.{arith}
 use native.Mathlib.Nat.{add-assoc, eq-or-lt-of-le}
@@ -49,6 +49,12 @@ module _ {A : Type 0} where
   unfolding every
   every-of p [] h = refl
   every-of p (x ∷ xs) h = and-both (p x) (every p xs) (h x (List·Memᴰ·head refl)) (every-of p xs (λ y m. h y (List·Memᴰ·tail m)))
+
+  -- of two lists, every element of the one and every element of the other
+  pub every-append : (p : A → Bool) (xs ys : List A) → every p (xs ++ ys) ≡ (every p xs && every p ys)
+  unfolding every
+  every-append p [] ys = refl
+  every-append p (x ∷ xs) ys = ap (λ (b : Bool). p x && b) (every-append p xs ys) ∙ sym (and-assoc (p x) (every p xs) (every p ys))
 
   -- what is kept is in the list, and the test holds of it
   pub keep-gives : (p : A → Bool) {x : A} (xs : List A) → List·Memᴰ x (keep p xs) → List·Memᴰ x xs × (p x ≡ true)

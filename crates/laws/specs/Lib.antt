@@ -52,6 +52,8 @@ pub mod LineComplete
 pub mod LineMeaning
 pub mod LineSound
 pub mod LinePlace
+pub mod LineWritten
+pub mod LineReadsBack
 -- what was built passes the check
 pub mod Passing
 -- routes

@@ -11,7 +11,7 @@ use lib.ListN.{length}
 use Rattle.base.specs.Apart.{apart-gives}
 use Rattle.base.specs.Bools.{and-first, and-second, or-first, or-second}
 use Rattle.base.specs.Choice.{pick}
-use Rattle.base.specs.Lists.{some}
+use Rattle.base.specs.Lists.{some, keep}
 use Rattle.meaning.specs.Numbers.{mostSteps}
 use Rattle.meaning.specs.Reader.{read, go-on, _>>=_, give, byte}
 use Rattle.meaning.specs.Forest.{axisOf, Forest, step, size, childrenIn, forest, stepsOf}
@@ -53,6 +53,22 @@ other-first k s ss h = go (eqb (s .parent) 0) refl h
     go : (t : Bool) → eqb (s .parent) 0 ≡ t → (t && eqb (s .axis) 0) ≡ false → nears (childrenIn 0 k (s ∷ ss)) ≡ nears (childrenIn 0 (suc k) ss)
     go true e z = ap nears (first-child 0 k s ss (eqb-true (s .parent) 0 e)) ∙ far-first (s .axis) _ _ _ (eqb-false (s .axis) 0 z)
     go false e z = ap nears (no-child 0 k s ss (eqb-false (s .parent) 0 e))
+
+-- so as many root steps are near as there are near root steps
+nears-steps : (k : ℕ) (ss : List Step) → length (keep isNearRoot ss) ≡ nears (childrenIn 0 k ss)
+unfolding keep pick childrenIn nears
+nears-steps k [] = refl
+nears-steps k (s ∷ ss) = go (isNearRoot s) refl (nears-steps (suc k) ss)
+  where
+    go : (t : Bool) → isNearRoot s ≡ t → length (keep isNearRoot ss) ≡ nears (childrenIn 0 (suc k) ss)
+        → length (pick t (s ∷ keep isNearRoot ss) (keep isNearRoot ss)) ≡ nears (childrenIn 0 k (s ∷ ss))
+    go true e later = ap suc later ∙ sym (near-first k s ss e)
+    go false e later = later ∙ sym (other-first k s ss e)
+
+-- among the steps of a forest too
+pub nears-counted : (f : Forest) → length (keep isNearRoot (stepsOf f)) ≡ nears f
+unfolding forest
+nears-counted f = nears-steps 1 (stepsOf f) ∙ ap nears (forest-stepsOf f)
 
 module _ (known : ℕ) where
   -- the labels of sound steps are known wherever they hang

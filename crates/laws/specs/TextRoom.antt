@@ -69,23 +69,27 @@ sheet-sized s sh left h =
     let made = give-read _ [] (ended .1) .0 in
     subst Sized (ap (λ (x : Sheet). x .labels) made) (labels-sized (n .first) [] (n .others) (known .value) (known .middle) (known .before))
 
+-- and so short
 pub sheet-short : (s : List ℕ) (sh : Sheet) (left : List ℕ) → sheet s ≡ read sh left → Short (sh .labels)
 unfolding Sized Short
 sheet-short s sh left h text m = sheet-sized s sh left h text m .1
 
 -- ---- a pattern: 64 bytes a step
 
+-- two of its axis
 axis-room : (a : Axis) → length (axisText a) ≤ 2
 unfolding axisText ascii
 axis-room near = omega arith
 axis-room far = omega arith
 
+-- two of its brackets
 brackets-room : (many : Bool) (text : List ℕ) → length (inBrackets many text) ≤ 2 + length text
 unfolding inBrackets ascii
 brackets-room true text = omega (arith, length-append text (93 ∷ []))
 brackets-room false text = omega arith
 
 module _ (ls : List (List ℕ)) (short : Short ls) where
+  -- sixty of its label
   label-room : (l : ℕ) → length (labelText ls l) ≤ 60
   unfolding labelText labelAt ascii Short
   label-room zero = omega arith
@@ -95,6 +99,7 @@ module _ (ls : List (List ℕ)) (short : Short ls) where
       (λ e. omega (arith, ap length (List·getD-eq-default ls [] {n = l} (ltb-false l (length ls) e))))
       (true-or-false (ltb l (length ls)))
 
+  -- together
   branches-room : (many : Bool) (f : Forest) → length (branchesText ls many f) ≤ 64 * size f
   unfolding branchesText size
   branches-room many none = omega arith

@@ -1,0 +1,156 @@
+-- What is written of a pattern is a line of the notation, and the steps that the line draws are the pattern's.
+use Prim.Native.Nat.{ℕ, zero, suc, _+_, _≤_, _<_}
+use mathlib.Core.Path.{_≡_, refl, sym, ap, ap₂, _∙_}
+use mathlib.Core.Bool.{Bool, true, false, true≢false}
+use mathlib.Core.List.{List, [], _∷_, _++_, append-nil, map, map-append}
+use native.Mathlib.Omega.{arith}
+use lib.ListN.{length, getD}
+use Rattle.base.specs.Apart.{is-false}
+use Rattle.base.specs.Bools.{and-first, and-second}
+use Rattle.base.specs.Choice.{pick}
+use Rattle.base.specs.Lists.{every}
+use Rattle.base.specs.ListLaws.{some-of, every-append}
+use Rattle.base.specs.Replacing.{place-in}
+use Rattle.meaning.specs.Forest.{Axis, axisNumber, Forest, none, step, size, stepsFrom, stepsOf}
+use Rattle.meaning.specs.Sections.{sameLabel}
+use Rattle.meaning.specs.LabelBytes.{labelAt}
+use Rattle.meaning.specs.PatternText.{labelText, several, inBrackets, branchesText, patternText}
+use Rattle.meaning.specs.Notation.{writable, Name, any, called, Named, starred, labelled, Sketch, blank, draw}
+use Rattle.meaning.specs.Notation.{Branches, bare, last, more, whole, Branch, along, Rest, leaf, over, Line, dot, branches}
+use Rattle.meaning.specs.Notation.{drawnSize, drawnFrom, stepsDrawn}
+use Rattle.meaning.specs.LineCalls.{numberFrom, nameNumber, isKnown, knownDrawn, stepDrawn, stepWritable}
+use Rattle.meaning.specs.declared.Step.{Step}
+use Rattle.laws.specs.Labels.{same-bytes, bytes-same, Distinct}
+use Rattle.laws.specs.MergeLabels.{LabelsWithin}
+use Rattle.laws.specs.TextRoom.{Sized}
+
+-- what a label number is called
+unfoldable pub nameOf : List (List ℕ) → ℕ → Name
+nameOf ls zero = any
+nameOf ls (suc l) = called (labelAt ls (suc l))
+
+-- a pattern as what a line draws
+unfoldable pub sketched : List (List ℕ) → Forest → Sketch
+sketched ls none = blank
+sketched ls (step a l kids later) = draw a (nameOf ls l) (sketched ls kids) (sketched ls later)
+
+-- ---- what is written is a line
+
+-- a label with a byte that can stand in a line is named by its bytes
+by-bytes : (text : List ℕ) → 1 ≤ length text → writable text ≡ true → Named text (called text)
+by-bytes [] h w = absurd (omega arith)
+by-bytes (b ∷ l) h w = labelled b l w
+
+module _ (ls : List (List ℕ)) where
+  -- what stands behind an axis: its branches, if any, follow at once
+  rest-written : {text : List ℕ} {n : Name} (kids : Forest) → Named text n
+      → (1 ≤ size kids → Branches (branchesText ls (several kids) kids) (sketched ls kids))
+      → Rest (text ++ branchesText ls (several kids) kids) n (sketched ls kids)
+  unfolding branchesText sketched size
+  rest-written none h below = rw append-nil (leaf h)
+  rest-written (step a l kids later) h below = over h (below (omega arith))
+
+  -- a branch stands in brackets where there are several, and so do those after it
+  branch-written : {s : List ℕ} {a : Axis} {n : Name} {drawn : Sketch} (many : Bool) (l : ℕ) (kids later : Forest) → Branch s a n drawn
+      → (several (step a l kids later) ≡ true → many ≡ true)
+      → (1 ≤ size later → Branches (branchesText ls true later) (sketched ls later))
+      → Branches (inBrackets many s ++ branchesText ls many later) (draw a n drawn (sketched ls later))
+  unfolding inBrackets branchesText several sketched size
+  branch-written true l kids none b h after = rw append-nil (last (whole b))
+  branch-written true l kids (step a′ l′ kids′ later) b h after = more (whole b) (after (omega arith))
+  branch-written false l kids none b h after = rw append-nil (bare b)
+  branch-written false l kids (step a′ l′ kids′ later) b h after = absurd (true≢false (sym (h refl)))
+
+module _ (ls : List (List ℕ)) (sized : Sized ls) where
+  -- a label that can stand in a line is named there as it is written
+  label-written : (l : ℕ) → l ≤ length ls → writable (labelAt ls l) ≡ true → Named (labelText ls l) (nameOf ls l)
+  unfolding labelText labelAt nameOf Sized
+  label-written zero h w = starred
+  label-written (suc l) h w = by-bytes (getD ls l []) (sized (getD ls l []) (place-in ls l [] (omega arith)) .0) w
+
+  -- the branches below one parent, in brackets where there are several
+  branches-written : (f : Forest) (many : Bool) (p k : ℕ) → 1 ≤ size f → (several f ≡ true → many ≡ true)
+      → LabelsWithin (length ls) f → every (stepWritable ls) (stepsFrom p k f) ≡ true → Branches (branchesText ls many f) (sketched ls f)
+  unfolding branchesText sketched size LabelsWithin stepsFrom every stepWritable
+  branches-written none many p k h few within w = absurd (omega arith)
+  branches-written (step a l kids later) many p k h few within w =
+      let fits = stepWritable ls in
+      let j = suc k + size kids in
+      let here = fits (record { parent = p; axis = axisNumber a; label = l }) in
+      let below = every fits (stepsFrom k (suc k) kids) in
+      let after = every fits (stepsFrom p j later) in
+      let both = sym (every-append fits (stepsFrom k (suc k) kids) (stepsFrom p j later)) ∙ and-second here _ w in
+      branch-written ls many l kids later
+      (along a (rest-written ls kids (label-written l (within .0) (and-first here _ w))
+      (λ some. branches-written kids (several kids) k (suc k) some (λ z. z) (within .1) (and-first below after both))))
+      few
+      (λ some. branches-written later true p j some (λ z. refl) (within .2) (and-second below after both))
+
+  -- what is written of a pattern whose labels can stand in a line is a line
+  pub written-line : (f : Forest) → LabelsWithin (length ls) f → every (stepWritable ls) (stepsOf f) ≡ true → Line (patternText ls f) (sketched ls f)
+  unfolding patternText sketched stepsOf size
+  written-line none within w = dot
+  written-line (step a l kids later) within w =
+      branches (branches-written (step a l kids later) (several (step a l kids later)) 0 1 (omega arith) (λ z. z) within w)
+
+-- ---- the steps that it draws
+
+-- they are as many
+sketched-size : (ls : List (List ℕ)) (f : Forest) → drawnSize (sketched ls f) ≡ size f
+unfolding sketched drawnSize size
+sketched-size ls none = refl
+sketched-size ls (step a l kids later) = ap₂ (λ (m n : ℕ). suc (m + n)) (sketched-size ls kids) (sketched-size ls later)
+
+-- where no label occurs twice, the number of a label is its place
+number-back : (k : ℕ) (ls : List (List ℕ)) (n : ℕ) → Distinct ls → n < length ls → numberFrom k ls (getD ls n []) ≡ k + n
+unfolding numberFrom pick
+number-back k [] n apart h = absurd (omega arith)
+number-back k (x ∷ ls) zero apart h = rw (bytes-same x) (omega arith)
+number-back k (x ∷ ls) (suc n) apart h =
+    let other : sameLabel (getD ls n []) x ≡ false = is-false _ (λ e. apart 0 (suc n) (omega arith) h (sym (same-bytes _ x e))) in
+    rw other (number-back (suc k) ls n (λ i j l m. apart (suc i) (suc j) (omega arith) (omega arith)) (omega arith) ∙ omega arith)
+
+module _ (ls : List (List ℕ)) where
+  -- so what a label number is called has that number
+  name-back : (l : ℕ) → Distinct ls → l ≤ length ls → nameNumber ls (nameOf ls l) ≡ l
+  unfolding nameNumber nameOf labelAt
+  name-back zero apart h = refl
+  name-back (suc l) apart h = number-back 1 ls l apart (omega arith) ∙ omega arith
+
+  -- and is known
+  name-known : (l : ℕ) → l ≤ length ls → isKnown ls (nameOf ls l) ≡ true
+  unfolding isKnown nameOf labelAt
+  name-known zero h = refl
+  name-known (suc l) h = some-of (sameLabel (getD ls l [])) (place-in ls l [] (omega arith)) (bytes-same (getD ls l []))
+
+  -- the steps that are drawn below step p, from number k on
+  steps-back-from : (p k : ℕ) (f : Forest) → Distinct ls → LabelsWithin (length ls) f → map (stepDrawn ls) (drawnFrom p k (sketched ls f)) ≡ stepsFrom p k f
+  unfolding sketched drawnFrom stepsFrom LabelsWithin stepDrawn
+  steps-back-from p k none apart within = refl
+  steps-back-from p k (step a l kids later) apart within =
+      let s : Step = record { parent = p; axis = axisNumber a; label = l } in
+      map-append (stepDrawn ls) (record { parent = p; axis = a; name = nameOf ls l } ∷ drawnFrom k (suc k) (sketched ls kids)) _
+      ∙ rw (sketched-size ls kids, name-back l apart (within .0), steps-back-from k (suc k) kids apart (within .1))
+      (ap (λ ss. s ∷ (stepsFrom k (suc k) kids ++ ss)) (steps-back-from p (suc k + size kids) later apart (within .2)))
+
+  -- so the steps that are drawn are the pattern's
+  pub steps-back : (f : Forest) → Distinct ls → LabelsWithin (length ls) f → map (stepDrawn ls) (stepsDrawn (sketched ls f)) ≡ stepsOf f
+  unfolding stepsDrawn stepsOf
+  steps-back f = steps-back-from 0 1 f
+
+  -- every name that is drawn below step p, from number k on, is known
+  known-from : (p k : ℕ) (f : Forest) → LabelsWithin (length ls) f → every (knownDrawn ls) (drawnFrom p k (sketched ls f)) ≡ true
+  unfolding sketched drawnFrom LabelsWithin every knownDrawn
+  known-from p k none within = refl
+  known-from p k (step a l kids later) within =
+      rw (
+        every-append (knownDrawn ls) (drawnFrom k (suc k) (sketched ls kids)),
+        name-known l (within .0),
+        known-from k (suc k) kids (within .1),
+        known-from p (suc k + drawnSize (sketched ls kids)) later (within .2),
+      )
+
+  -- so is every name that is drawn
+  pub names-known : (f : Forest) → LabelsWithin (length ls) f → every (knownDrawn ls) (stepsDrawn (sketched ls f)) ≡ true
+  unfolding stepsDrawn
+  names-known f = known-from 0 1 f
