@@ -18,7 +18,7 @@ use Rattle.meaning.specs.Sections.{Sheet, sheet}
 use Rattle.meaning.specs.Written.{stepsBytes, patternBytes}
 use Rattle.meaning.specs.PatternText.{patternText}
 use Rattle.meaning.specs.Notation.{Sketch, Line, stepsDrawn}
-use Rattle.meaning.specs.Lines.{draws, readAny, within, readLine}
+use Rattle.meaning.specs.Lines.{within, readLine}
 use Rattle.meaning.specs.Calls.{judged, isSubscription, subscription, Writing, refuses, writes}
 use Rattle.meaning.specs.LineCalls.{drawnWriting, lineJudged, lineThen, stepWritable, textWriting, onlyPattern, patternWriting, subscriptionWriting}
 use Rattle.laws.specs.Bridge.{length-stepsOf}
@@ -27,6 +27,7 @@ use Rattle.laws.specs.Labels.{sheet-distinct}
 use Rattle.laws.specs.SoundPatterns.{SoundPattern, pattern-read, nears-counted}
 use Rattle.laws.specs.RoundTrip.{sheet-read}
 use Rattle.laws.specs.TextRoom.{sheet-sized, sheet-short, pattern-room}
+use Rattle.laws.specs.LineComplete.{line-read}
 use Rattle.laws.specs.LineWritten.{sketched, written-line, steps-back, names-known}
 
 -- ---- where something is written
@@ -142,10 +143,7 @@ drawn-back s left sh h f sound =
       le-leb _ 1 (sound .lone),
     )
 
--- where each line is read as the steps that it draws
-module _
-    (line-read : (s : List ℕ) (t : Sketch) → Line s t → readAny s ≡ draws (stepsDrawn t))
-    {B : Type 0} (refuse : ℕ → ℕ → B) (next : Writing (Unit {0}) → B) where
+module _ {B : Type 0} (refuse : ℕ → ℕ → B) (next : Writing (Unit {0}) → B) where
   -- such a text reads back as its pattern
   text-reads-back : (s text : List ℕ) (t : Text s text) → lineThen refuse next s text ≡ next (writes tt (patternBytes (t .pattern)))
   unfolding lineThen judged lineJudged readLine within pick

@@ -18,7 +18,7 @@ use Rattle.meaning.specs.PatternText.{labelText, several, inBrackets, branchesT
 use Rattle.meaning.specs.Notation.{writable, Name, any, called, Named, starred, labelled, Sketch, blank, draw}
 use Rattle.meaning.specs.Notation.{Branches, bare, last, more, whole, Branch, along, Rest, leaf, over, Line, dot, branches}
 use Rattle.meaning.specs.Notation.{drawnSize, drawnFrom, stepsDrawn}
-use Rattle.meaning.specs.LineCalls.{numberFrom, nameNumber, isKnown, knownDrawn, stepDrawn, stepWritable}
+use Rattle.meaning.specs.LineCalls.{numberFrom, nameNumber, isKnown, knownDrawn, numberedStep, stepWritable}
 use Rattle.meaning.specs.declared.Step.{Step}
 use Rattle.laws.specs.Labels.{same-bytes, bytes-same, Distinct}
 use Rattle.laws.specs.MergeLabels.{LabelsWithin}
@@ -124,17 +124,17 @@ module _ (ls : List (List ℕ)) where
   name-known (suc l) h = some-of (sameLabel (getD ls l [])) (place-in ls l [] (omega arith)) (bytes-same (getD ls l []))
 
   -- the steps that are drawn below step p, from number k on
-  steps-back-from : (p k : ℕ) (f : Forest) → Distinct ls → LabelsWithin (length ls) f → map (stepDrawn ls) (drawnFrom p k (sketched ls f)) ≡ stepsFrom p k f
-  unfolding sketched drawnFrom stepsFrom LabelsWithin stepDrawn
+  steps-back-from : (p k : ℕ) (f : Forest) → Distinct ls → LabelsWithin (length ls) f → map (numberedStep ls) (drawnFrom p k (sketched ls f)) ≡ stepsFrom p k f
+  unfolding sketched drawnFrom stepsFrom LabelsWithin numberedStep
   steps-back-from p k none apart within = refl
   steps-back-from p k (step a l kids later) apart within =
       let s : Step = record { parent = p; axis = axisNumber a; label = l } in
-      map-append (stepDrawn ls) (record { parent = p; axis = a; name = nameOf ls l } ∷ drawnFrom k (suc k) (sketched ls kids)) _
+      map-append (numberedStep ls) (record { parent = p; axis = a; name = nameOf ls l } ∷ drawnFrom k (suc k) (sketched ls kids)) _
       ∙ rw (sketched-size ls kids, name-back l apart (within .0), steps-back-from k (suc k) kids apart (within .1))
       (ap (λ ss. s ∷ (stepsFrom k (suc k) kids ++ ss)) (steps-back-from p (suc k + size kids) later apart (within .2)))
 
   -- so the steps that are drawn are the pattern's
-  pub steps-back : (f : Forest) → Distinct ls → LabelsWithin (length ls) f → map (stepDrawn ls) (stepsDrawn (sketched ls f)) ≡ stepsOf f
+  pub steps-back : (f : Forest) → Distinct ls → LabelsWithin (length ls) f → map (numberedStep ls) (stepsDrawn (sketched ls f)) ≡ stepsOf f
   unfolding stepsDrawn stepsOf
   steps-back f = steps-back-from 0 1 f
 

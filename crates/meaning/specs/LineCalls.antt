@@ -41,15 +41,15 @@ isKnown ls (called l) = some (sameLabel l) ls
 unfoldable pub knownDrawn : List (List ℕ) → Drawn → Bool
 knownDrawn ls d = isKnown ls (d .name)
 
-unfoldable pub stepDrawn : List (List ℕ) → Drawn → Step
-stepDrawn ls d = record { parent = d .parent; axis = axisNumber (d .axis); label = nameNumber ls (d .name) }
+unfoldable pub numberedStep : List (List ℕ) → Drawn → Step
+numberedStep ls d = record { parent = d .parent; axis = axisNumber (d .axis); label = nameNumber ls (d .name) }
 
 -- ---- a line read
 
--- labels are judged in the order of steps, then the number of steps, then the near steps with parent 0
+-- first all labels, also those after the sixteenth step, then the number of steps, then the near steps with parent 0
 unfoldable pub drawnWriting : List (List ℕ) → List Drawn → Writing (Unit {0})
 drawnWriting ls ds =
-    let ss : List Step = map (stepDrawn ls) ds in
+    let ss : List Step = map (numberedStep ls) ds in
     pick (every (knownDrawn ls) ds)
     (pick (leb (length ss) mostSteps)
     (pick (leb (length (keep isNearRoot ss)) 1) (writes tt (stepsBytes ss)) (refuses secondNear))

@@ -7,7 +7,7 @@
 --     branch    = ( "/" | "//" ) rest
 --     rest      = ( "*" | label ) [ branches ]
 --     label     = one or more bytes other than  / * [ ] .  and line feed
-use Prim.Native.Nat.{ℕ, suc, _+_, _<_}
+use Prim.Native.Nat.{ℕ, suc, _+_, _≤_, _<_}
 use mathlib.Core.Path.{_≡_}
 use mathlib.Core.Logic.{_⊎_}
 use mathlib.Core.Bool.{Bool, true, not}
@@ -15,6 +15,7 @@ use mathlib.Core.List.{List, [], _∷_, _++_}
 use lib.Dec.{eqb}
 use lib.ListN.{length, take}
 use Rattle.base.specs.Lists.{some, every}
+use Rattle.meaning.specs.Numbers.{longestLine}
 use Rattle.meaning.specs.Forest.{Axis, near, far}
 use Rattle.meaning.specs.PatternText.{ascii, axisText}
 
@@ -27,7 +28,7 @@ barred b = some (eqb b) (ascii "/*[].\n")
 unfoldable pub unbarred : ℕ → Bool
 unbarred b = not (barred b)
 
--- a label that can stand in a line
+-- no byte of it is barred: a label that can stand in a line
 unfoldable pub writable : List ℕ → Bool
 writable l = every unbarred l
 
@@ -114,3 +115,9 @@ pub record FirstFault (s : List ℕ) (i : ℕ) : Type 0 where
   -- the bytes before it, some line could have there
   pub before : (k : ℕ) → k < i → Begins (take (suc k) s)
   pub here : ((i < length s) × (Begins (take (suc i) s) → ⊥)) ⊎ ((i ≡ length s) × NoLine s)
+
+-- where bytes are refused: at their first fault; or at 1,024, where more stand and no byte before it is at fault
+abbrev pub RefusedAt : List ℕ → ℕ → Type 0
+RefusedAt s i =
+    ((i ≤ longestLine) × FirstFault s i)
+    ⊎ ((i ≡ longestLine) × (longestLine < length s) × ((k : ℕ) → k < longestLine → Begins (take (suc k) s)))

@@ -53,7 +53,7 @@ notThere = 11
 abbrev pub notFair : ℕ
 notFair = 12
 
--- the line is not in the notation; comes with the place
+-- the line is not in the notation or has more than 1,024 bytes; comes with the place
 abbrev pub notALine : ℕ
 notALine = 13
 
