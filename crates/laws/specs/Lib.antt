@@ -52,6 +52,7 @@ pub mod LineComplete
 pub mod LineMeaning
 pub mod LineSound
 pub mod LinePlace
+pub mod LineJudged
 pub mod LineForest
 pub mod LineWritten
 pub mod LineReadsBack

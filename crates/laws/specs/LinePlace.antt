@@ -20,10 +20,13 @@ use Rattle.laws.specs.LineSound.{fault-no-steps, read-line}
 
 -- ---- at most one first fault
 
--- a line has none
+-- the front of a line begins one
+pub line-front : {s : List ℕ} {t : Sketch} → Line s t → (k : ℕ) → Begins (take k s)
+line-front {s} {t} l k = record { rest = drop k s; drawing = t; line = rw take-append-drop l }
+
+-- so a line has none
 line-no-fault : {s : List ℕ} {i : ℕ} {t : Sketch} → Line s t → FirstFault s i → ⊥
-line-no-fault {s} {i} {t} l f =
-    ⊎-elim (λ h. h .1 (record { rest = drop (suc i) s; drawing = t; line = rw take-append-drop l })) (λ h. h .1 t l) (f .here)
+line-no-fault {i = i} {t = t} l f = ⊎-elim (λ h. h .1 (line-front l (suc i))) (λ h. h .1 t l) (f .here)
 
 -- of two, none lies before the other
 not-sooner : {s : List ℕ} {i j : ℕ} → FirstFault s i → FirstFault s j → i < j → ⊥
