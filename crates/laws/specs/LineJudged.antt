@@ -104,7 +104,8 @@ pub place-refused : (s : List ℕ) (i : ℕ) → RefusedAt s i → readLine s �
 unfolding readLine
 place-refused s i h = ⊎-elim (λ f. ap (within s) (fault-only s i (f .1)) ∙ stays-early s i (f .0)) (λ f. rw (f .0) (go (f .1) (f .2) (readAny s) refl)) h
   where
-    go : longestLine < length s → ((k : ℕ) → k < longestLine → Begins (take (suc k) s)) → (r : LineRead) → readAny s ≡ r → within s (readAny s) ≡ offAt longestLine
+    go : longestLine < length s → ((k : ℕ) → k < longestLine → Begins (take (suc k) s)) → (r : LineRead) → readAny s ≡ r
+        → within s (readAny s) ≡ offAt longestLine
     go long before (offAt j) k =
         let f = fault-place s j k in
         let not-early : j < longestLine → ⊥ = λ l. ⊎-elim (λ n. n .1 (before j l)) (λ n. omega arith) (f .here) in

@@ -5,30 +5,29 @@ use mathlib.Core.Path.{_≡_, refl, ap, _∙_, subst}
 use mathlib.Core.Bool.{Bool, true, false}
 use mathlib.Core.List.{List, [], append-nil}
 use native.Mathlib.Omega.{arith}
-use borrow.Author.Tests.{ltb-true, le-leb}
-use lib.Dec.{leb}
+use borrow.Author.Tests.{ltb-true}
 use lib.ListN.{length}
 use Rattle.base.specs.Choice.{pick}
 use Rattle.base.specs.Lists.{every}
 use Rattle.base.specs.Replacing.{place-in}
-use Rattle.meaning.specs.Numbers.{mostSteps, longestLine}
+use Rattle.meaning.specs.Numbers.{longestLine}
 use Rattle.meaning.specs.Reader.{Reading, read, refused}
 use Rattle.meaning.specs.Forest.{Forest, none, size, stepsOf}
 use Rattle.meaning.specs.Sections.{Sheet, sheet}
-use Rattle.meaning.specs.Written.{stepsBytes, patternBytes}
+use Rattle.meaning.specs.Written.{patternBytes}
 use Rattle.meaning.specs.PatternText.{patternText}
 use Rattle.meaning.specs.Notation.{Sketch, Line, stepsDrawn}
-use Rattle.meaning.specs.Lines.{within, readLine}
 use Rattle.meaning.specs.Calls.{judged, isSubscription, subscription, Writing, refuses, writes}
 use Rattle.meaning.specs.LineCalls.{drawnWriting, lineJudged, lineThen, stepWritable, textWriting, onlyPattern, patternWriting, subscriptionWriting}
-use Rattle.laws.specs.Bridge.{length-stepsOf}
 use Rattle.laws.specs.Readers.{bind-read, give-read, end-read}
 use Rattle.laws.specs.Labels.{sheet-distinct}
-use Rattle.laws.specs.SoundPatterns.{SoundPattern, pattern-read, nears-counted}
+use Rattle.laws.specs.MergeNears.{nears}
+use Rattle.laws.specs.SoundPatterns.{SoundPattern, pattern-read}
 use Rattle.laws.specs.RoundTrip.{sheet-read}
 use Rattle.laws.specs.TextRoom.{sheet-sized, sheet-short, pattern-room}
-use Rattle.laws.specs.LineComplete.{line-read}
-use Rattle.laws.specs.LineWritten.{sketched, written-line, steps-back, names-known}
+use Rattle.laws.specs.LineJudged.{line-accepted}
+use Rattle.laws.specs.LineForest.{drawn-size, drawn-written}
+use Rattle.laws.specs.LineWritten.{sketched, written-line, forest-back, names-known}
 
 -- ---- where something is written
 
@@ -128,28 +127,23 @@ subscription-line-short s i text h = text-short (subscription-text s i text h .0
 
 -- ---- and it reads back
 
--- the steps that a line draws of a sound pattern are written as the pattern's bytes
+-- what a line draws of a sound pattern is written as the pattern's bytes
 drawn-back : (s left : List ℕ) (sh : Sheet) → sheet s ≡ read sh left → (f : Forest) → SoundPattern (length (sh .labels)) f
     → drawnWriting (sh .labels) (stepsDrawn (sketched (sh .labels) f)) ≡ writes tt (patternBytes f)
-unfolding drawnWriting stepsBytes patternBytes pick
 drawn-back s left sh h f sound =
-    let few : leb (size f) mostSteps ≡ true = le-leb (size f) mostSteps (sound .few) in
-    rw (
-      names-known (sh .labels) f (sound .within),
-      steps-back (sh .labels) f (sheet-distinct s left sh h) (sound .within),
-      length-stepsOf f,
-      few,
-      nears-counted f,
-      le-leb _ 1 (sound .lone),
-    )
+    let ls = sh .labels in
+    let t = sketched ls f in
+    let back = forest-back ls f (sheet-distinct s left sh h) (sound .within) in
+    drawn-written ls t (names-known ls f (sound .within))
+    (omega (arith, drawn-size ls t, ap size back, sound .few)) (omega (arith, ap nears back, sound .lone))
+    ∙ ap (λ g. writes tt (patternBytes g)) back
 
 module _ {B : Type 0} (refuse : ℕ → ℕ → B) (next : Writing (Unit {0}) → B) where
   -- such a text reads back as its pattern
   text-reads-back : (s text : List ℕ) (t : Text s text) → lineThen refuse next s text ≡ next (writes tt (patternBytes (t .pattern)))
-  unfolding lineThen judged lineJudged readLine within pick
+  unfolding lineThen judged lineJudged
   text-reads-back s text t =
-      let fits : leb (length text) longestLine ≡ true = le-leb (length text) longestLine (text-short t) in
-      rw (t .reads, line-read text _ (text-line t), fits, drawn-back s (t .left) (t .sh) (t .reads) (t .pattern) (t .sound))
+      rw (t .reads, line-accepted text _ (text-line t) (text-short t), drawn-back s (t .left) (t .sh) (t .reads) (t .pattern) (t .sound))
 
   -- what is written of a pattern's bytes reads back as the same bytes
   pub pattern-reads-back : (s p text : List ℕ) → patternWriting s p ≡ writes tt text → lineThen refuse next s text ≡ next (writes tt p)

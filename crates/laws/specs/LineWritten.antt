@@ -1,8 +1,8 @@
--- What is written of a pattern is a line of the notation, and the steps that the line draws are the pattern's.
+-- What is written of a pattern is a line of the notation, and what the line draws is the pattern.
 use Prim.Native.Nat.{ℕ, zero, suc, _+_, _≤_, _<_}
-use mathlib.Core.Path.{_≡_, refl, sym, ap, ap₂, _∙_}
+use mathlib.Core.Path.{_≡_, refl, sym, _∙_}
 use mathlib.Core.Bool.{Bool, true, false, true≢false}
-use mathlib.Core.List.{List, [], _∷_, _++_, append-nil, map, map-append}
+use mathlib.Core.List.{List, [], _∷_, _++_, append-nil}
 use native.Mathlib.Omega.{arith}
 use lib.ListN.{length, getD}
 use Rattle.base.specs.Apart.{is-false}
@@ -18,11 +18,11 @@ use Rattle.meaning.specs.PatternText.{labelText, several, inBrackets, branchesT
 use Rattle.meaning.specs.Notation.{writable, Name, any, called, Named, starred, labelled, Sketch, blank, draw}
 use Rattle.meaning.specs.Notation.{Branches, bare, last, more, whole, Branch, along, Rest, leaf, over, Line, dot, branches}
 use Rattle.meaning.specs.Notation.{drawnSize, drawnFrom, stepsDrawn}
-use Rattle.meaning.specs.LineCalls.{numberFrom, nameNumber, isKnown, knownDrawn, numberedStep, stepWritable}
-use Rattle.meaning.specs.declared.Step.{Step}
+use Rattle.meaning.specs.LineCalls.{numberFrom, nameNumber, isKnown, knownDrawn, stepWritable}
 use Rattle.laws.specs.Labels.{same-bytes, bytes-same, Distinct}
 use Rattle.laws.specs.MergeLabels.{LabelsWithin}
 use Rattle.laws.specs.TextRoom.{Sized}
+use Rattle.laws.specs.LineForest.{drawnForest}
 
 -- what a label number is called
 unfoldable pub nameOf : List (List ℕ) → ℕ → Name
@@ -93,13 +93,7 @@ module _ (ls : List (List ℕ)) (sized : Sized ls) where
   written-line (step a l kids later) within w =
       branches (branches-written (step a l kids later) (several (step a l kids later)) 0 1 (omega arith) (λ z. z) within w)
 
--- ---- the steps that it draws
-
--- they are as many
-sketched-size : (ls : List (List ℕ)) (f : Forest) → drawnSize (sketched ls f) ≡ size f
-unfolding sketched drawnSize size
-sketched-size ls none = refl
-sketched-size ls (step a l kids later) = ap₂ (λ (m n : ℕ). suc (m + n)) (sketched-size ls kids) (sketched-size ls later)
+-- ---- what it draws
 
 -- where no label occurs twice, the number of a label is its place
 number-back : (k : ℕ) (ls : List (List ℕ)) (n : ℕ) → Distinct ls → n < length ls → numberFrom k ls (getD ls n []) ≡ k + n
@@ -123,20 +117,12 @@ module _ (ls : List (List ℕ)) where
   name-known zero h = refl
   name-known (suc l) h = some-of (sameLabel (getD ls l [])) (place-in ls l [] (omega arith)) (bytes-same (getD ls l []))
 
-  -- the steps that are drawn below step p, from number k on
-  steps-back-from : (p k : ℕ) (f : Forest) → Distinct ls → LabelsWithin (length ls) f → map (numberedStep ls) (drawnFrom p k (sketched ls f)) ≡ stepsFrom p k f
-  unfolding sketched drawnFrom stepsFrom LabelsWithin numberedStep
-  steps-back-from p k none apart within = refl
-  steps-back-from p k (step a l kids later) apart within =
-      let s : Step = record { parent = p; axis = axisNumber a; label = l } in
-      map-append (numberedStep ls) (record { parent = p; axis = a; name = nameOf ls l } ∷ drawnFrom k (suc k) (sketched ls kids)) _
-      ∙ rw (sketched-size ls kids, name-back l apart (within .0), steps-back-from k (suc k) kids apart (within .1))
-      (ap (λ ss. s ∷ (stepsFrom k (suc k) kids ++ ss)) (steps-back-from p (suc k + size kids) later apart (within .2)))
-
-  -- so the steps that are drawn are the pattern's
-  pub steps-back : (f : Forest) → Distinct ls → LabelsWithin (length ls) f → map (numberedStep ls) (stepsDrawn (sketched ls f)) ≡ stepsOf f
-  unfolding stepsDrawn stepsOf
-  steps-back f = steps-back-from 0 1 f
+  -- so what is drawn is the pattern
+  pub forest-back : (f : Forest) → Distinct ls → LabelsWithin (length ls) f → drawnForest ls (sketched ls f) ≡ f
+  unfolding sketched drawnForest LabelsWithin
+  forest-back none apart within = refl
+  forest-back (step a l kids later) apart within =
+      rw (name-back l apart (within .0), forest-back kids apart (within .1), forest-back later apart (within .2))
 
   -- every name that is drawn below step p, from number k on, is known
   known-from : (p k : ℕ) (f : Forest) → LabelsWithin (length ls) f → every (knownDrawn ls) (drawnFrom p k (sketched ls f)) ≡ true
