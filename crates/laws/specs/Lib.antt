@@ -53,6 +53,7 @@ pub mod LineMeaning
 pub mod LineSound
 pub mod LinePlace
 pub mod LineJudged
+pub mod LineAnswers
 pub mod LineForest
 pub mod LineWritten
 pub mod LineReadsBack

@@ -1,7 +1,7 @@
 -- What is written of a pattern, by its bytes or as a subscription, is a line of at most 1,024 bytes that reads back as the same
 -- pattern.
 use Prim.Native.Nat.{ℕ, _≤_}
-use mathlib.Core.Path.{_≡_, refl, ap, _∙_, subst}
+use mathlib.Core.Path.{_≡_, refl, sym, ap, _∙_, subst}
 use mathlib.Core.Bool.{Bool, true, false}
 use mathlib.Core.List.{List, [], append-nil}
 use native.Mathlib.Omega.{arith}
@@ -11,21 +11,21 @@ use Rattle.base.specs.Choice.{pick}
 use Rattle.base.specs.Lists.{every}
 use Rattle.base.specs.Replacing.{place-in}
 use Rattle.meaning.specs.Numbers.{longestLine}
-use Rattle.meaning.specs.Reader.{Reading, read, refused}
+use Rattle.meaning.specs.Reader.{Reading, read, refused, go-on, _>>_, give, end}
 use Rattle.meaning.specs.Forest.{Forest, none, size, stepsOf}
-use Rattle.meaning.specs.Sections.{Sheet, sheet}
+use Rattle.meaning.specs.Sections.{pattern, Sheet, sheet}
 use Rattle.meaning.specs.Written.{patternBytes}
 use Rattle.meaning.specs.PatternText.{patternText}
 use Rattle.meaning.specs.Notation.{Sketch, Line, stepsDrawn}
 use Rattle.meaning.specs.Calls.{judged, isSubscription, subscription, Writing, refuses, writes}
-use Rattle.meaning.specs.LineCalls.{drawnWriting, lineJudged, lineThen, stepWritable, textWriting, onlyPattern, patternWriting, subscriptionWriting}
-use Rattle.laws.specs.Readers.{bind-read, give-read, end-read}
+use Rattle.meaning.specs.LineCalls.{drawnWriting, stepWritable, textWriting, onlyPattern, patternWriting, subscriptionWriting}
+use Rattle.laws.specs.Readers.{bind-read, read-bind, give-read, end-read}
 use Rattle.laws.specs.Labels.{sheet-distinct}
 use Rattle.laws.specs.MergeNears.{nears}
-use Rattle.laws.specs.SoundPatterns.{SoundPattern, pattern-read}
+use Rattle.laws.specs.SoundPatterns.{SoundPattern, pattern-read, read-pattern}
 use Rattle.laws.specs.RoundTrip.{sheet-read}
 use Rattle.laws.specs.TextRoom.{sheet-sized, sheet-short, pattern-room}
-use Rattle.laws.specs.LineJudged.{line-accepted}
+use Rattle.laws.specs.LineAnswers.{LineWrites, line-writes}
 use Rattle.laws.specs.LineForest.{drawn-size, drawn-written}
 use Rattle.laws.specs.LineWritten.{sketched, written-line, forest-back, names-known}
 
@@ -69,6 +69,12 @@ only-pattern-read known p f left h =
     let made = give-read _ [] (ended .1) .0 in
     let r = pattern-read known p (one .value) (one .middle) (one .before) in
     subst (λ (g : Forest). SoundPattern known g × (p ≡ patternBytes g)) made (r .0, r .1 ∙ rw (ended .0, append-nil) refl)
+
+-- and a sound one is read from its bytes
+pub read-only-pattern : (known : ℕ) (f : Forest) → SoundPattern known f → onlyPattern known (patternBytes f) ≡ read f []
+unfolding onlyPattern _>>_ go-on end give
+read-only-pattern known f sound =
+    read-bind (pattern known) _ (patternBytes f) f [] (ap (pattern known) (sym (append-nil (patternBytes f))) ∙ read-pattern known f [] sound)
 
 -- what is written of a pattern's bytes is such a text
 pattern-text : (s p text : List ℕ) → patternWriting s p ≡ writes tt text → (t : Text s text) × (p ≡ patternBytes (t .pattern))
@@ -138,23 +144,34 @@ drawn-back s left sh h f sound =
     (omega (arith, drawn-size ls t, ap size back, sound .few)) (omega (arith, ap nears back, sound .lone))
     ∙ ap (λ g. writes tt (patternBytes g)) back
 
-module _ {B : Type 0} (refuse : ℕ → ℕ → B) (next : Writing (Unit {0}) → B) where
-  -- such a text reads back as its pattern
-  text-reads-back : (s text : List ℕ) (t : Text s text) → lineThen refuse next s text ≡ next (writes tt (patternBytes (t .pattern)))
-  unfolding lineThen judged lineJudged
-  text-reads-back s text t =
-      rw (t .reads, line-accepted text _ (text-line t) (text-short t), drawn-back s (t .left) (t .sh) (t .reads) (t .pattern) (t .sound))
+-- such a text reads back as its pattern
+text-reads-back : (s text : List ℕ) (t : Text s text) → LineWrites s text (patternBytes (t .pattern))
+text-reads-back s text t =
+    line-writes s (t .left) (t .sh) (t .reads) text _ (text-line t) (text-short t) _ (drawn-back s (t .left) (t .sh) (t .reads) (t .pattern) (t .sound))
 
-  -- what is written of a pattern's bytes reads back as the same bytes
-  pub pattern-reads-back : (s p text : List ℕ) → patternWriting s p ≡ writes tt text → lineThen refuse next s text ≡ next (writes tt p)
-  pattern-reads-back s p text h =
-      let r = pattern-text s p text h in
-      rw (r .1) (text-reads-back s text (r .0))
+-- what is written of a pattern's bytes reads back as the same bytes
+pub pattern-reads-back : (s p text : List ℕ) → patternWriting s p ≡ writes tt text → LineWrites s text p
+pattern-reads-back s p text h =
+    let r = pattern-text s p text h in
+    rw (r .1) (text-reads-back s text (r .0))
 
-  -- what is written of a subscription reads back as its steps
-  pub subscription-reads-back : (s : List ℕ) (i : ℕ) (text : List ℕ) (sh : Sheet) (left : List ℕ) → sheet s ≡ read sh left
-      → subscriptionWriting s i ≡ writes tt text → lineThen refuse next s text ≡ next (writes tt (patternBytes (subscription sh i)))
-  subscription-reads-back s i text sh left h w =
-      let r = subscription-text s i text w in
-      let same : r .0 .sh ≡ sh = cc in
-      text-reads-back s text (r .0) ∙ ap (λ f. next (writes tt (patternBytes f))) (r .1 ∙ ap (λ x. subscription x i) same)
+-- what is written of a subscription reads back as its steps
+pub subscription-reads-back : (s : List ℕ) (i : ℕ) (text : List ℕ) (sh : Sheet) (left : List ℕ) → sheet s ≡ read sh left
+    → subscriptionWriting s i ≡ writes tt text → LineWrites s text (patternBytes (subscription sh i))
+subscription-reads-back s i text sh left h w =
+    let r = subscription-text s i text w in
+    let same : r .0 .sh ≡ sh = cc in
+    subst (λ f. LineWrites s text (patternBytes f)) (r .1 ∙ ap (λ x. subscription x i) same) (text-reads-back s text (r .0))
+
+-- ---- what is written where sheet and pattern are sound
+
+module _ (s left : List ℕ) (sh : Sheet) (was-read : sheet s ≡ read sh left) where
+  -- of a pattern's bytes its text, unless a label is not writable
+  pub pattern-written : (f : Forest) → SoundPattern (length (sh .labels)) f → patternWriting s (patternBytes f) ≡ textWriting (sh .labels) f
+  unfolding patternWriting judged
+  pattern-written f sound = rw (was-read, read-only-pattern (length (sh .labels)) f sound)
+
+  -- so of a subscription
+  pub subscription-written : (i : ℕ) → isSubscription sh i ≡ true → subscriptionWriting s i ≡ textWriting (sh .labels) (subscription sh i)
+  unfolding subscriptionWriting judged pick
+  subscription-written i there = rw (was-read, there)
