@@ -1,7 +1,8 @@
 -- What the number of an answer tells: 0 is given exactly where a call is not refused, so number 0 means that every part was
--- read; and a refused call gives zeros or an empty part and leaves a lent output as found.
+-- read; and a refused call gives zeros (13 the place of the fault) or an empty part and leaves a lent output as found.
 use Prim.Native.Nat.{ℕ, zero, suc, _≤_}
 use mathlib.Core.Path.{_≡_, refl, sym, ap, _∙_}
+use mathlib.Core.Logic.{⊎-elim}
 use mathlib.Core.Bool.{Bool, true, false, not, false≢true}
 use mathlib.Core.List.{List, []}
 use native.Mathlib.Omega.{arith}
@@ -9,25 +10,35 @@ use borrow.Author.Tests.{ne-eqb, le-leb, leb-false}
 use lib.Dec.{eqb, leb}
 use lib.ListN.{length, List·getD-eq-default}
 use Rattle.base.specs.Choice.{pick}
-use Rattle.meaning.specs.Numbers.{done, noRoom, notThere}
+use Rattle.meaning.specs.Numbers.{done, countOutside, secondNear, noRoom, notThere, notALine, labelUnknown, notWritable, longestLine}
 use Rattle.meaning.specs.Reader.{Reading, read, refused, Went, numberOf}
+use Rattle.meaning.specs.Forest.{Forest}
 use Rattle.meaning.specs.Sections.{Sheet, sheet, Document, document, Entry}
 use Rattle.meaning.specs.Routing.{plainRoute}
 use Rattle.meaning.specs.LabelBytes.{labelsOf, isLabel, labelAt}
 use Rattle.meaning.specs.Calls.{judged, fairTable, threeJudged, Writing, refuses, writes, withRoom, after, mergeWriting, mergeAnswer, buildWriting, buildAnswer}
 use Rattle.meaning.specs.Calls.{plainAnswer, tableAnswer, wantedAnswer, matchesAnswer, coversAnswer, sheetNumber, documentNumber, tableNumber, labelNumber}
-use Rattle.meaning.specs.Calls.{labelPart}
+use Rattle.meaning.specs.Calls.{subscription, labelPart}
+use Rattle.meaning.specs.Notation.{Drawn}
+use Rattle.meaning.specs.Lines.{LineRead, offAt, draws, readLine}
+use Rattle.meaning.specs.LineCalls.{drawnWriting, lineJudged, lineThen, linedAnswer, lineAnswer, lineOutput, textWriting, onlyPattern}
+use Rattle.meaning.specs.LineCalls.{patternWriting, subscriptionWriting, outputAnswer}
 use Rattle.meaning.specs.Given.{Given, refusal, gives, byNumber, ToldByNumber, askedGiven, MergeValues, mergedGiven}
-use Rattle.meaning.specs.Given.{BuildValues, builtGiven, routedGiven, RouteValues, tabledGiven}
+use Rattle.meaning.specs.Given.{BuildValues, builtGiven, LineValues, linedGiven, outputGiven, routedGiven, RouteValues, tabledGiven}
 use Rattle.meaning.specs.Promises.{MatchesGives, CoversGives, MergeGives, BuildGives, PlainRouteGives, TableRouteGives, WantedGives}
+use Rattle.meaning.specs.Promises.{ReadLineGives, WritePatternGives, WriteSubscriptionGives}
 use Rattle.meaning.specs.declared.Asked.the-variants as asked
 use Rattle.meaning.specs.declared.Merged.the-variants as merged
 use Rattle.meaning.specs.declared.Built.the-variants as built
+use Rattle.meaning.specs.declared.Lined.{Lined}
+use Rattle.meaning.specs.declared.Lined.the-variants as lined
+use Rattle.meaning.specs.declared.Output.the-variants as output
 use Rattle.meaning.specs.declared.Routed.{Routed}
 use Rattle.meaning.specs.declared.Routed.the-variants as routed
 use Rattle.meaning.specs.declared.Tabled.the-variants as tabled
 use Rattle.laws.specs.ThreeParts.{three-map}
-use Rattle.laws.specs.Refusals.{NotZero, sheet-numbered, document-numbered, fair-table-numbered}
+use Rattle.laws.specs.Refusals.{NotZero, sheet-numbered, document-numbered, fair-table-numbered, only-pattern-numbered}
+use Rattle.laws.specs.LineJudged.{refused-place}
 
 -- ---- 0 is given exactly where a call is not refused
 
@@ -121,27 +132,23 @@ module _ {A : Type 0} where
   WritingNotZero (refuses n) = 1 ≤ n
   WritingNotZero (writes a bs) = Unit {0}
 
+  -- a test, with the number of its fault
+  test-writing : (t : Bool) (w : Writing A) (n : ℕ) → 1 ≤ n → WritingNotZero w → WritingNotZero (pick t w (refuses n))
+  unfolding WritingNotZero pick
+  test-writing true w n h later = later
+  test-writing false w n h later = h
+
   -- room is judged last
   room-not-zero : (out : List ℕ) (w : Writing A) → WritingNotZero w → WritingNotZero (withRoom out w)
-  unfolding WritingNotZero withRoom pick
+  unfolding WritingNotZero withRoom
   room-not-zero out (refuses n) h = h
-  room-not-zero out (writes a bs) h = go (leb (length bs) (length out))
-    where
-      go : (b : Bool) → WritingNotZero (pick b (writes a bs) (refuses noRoom))
-      go true = tt
-      go false = omega arith
+  room-not-zero out (writes a bs) h = test-writing (leb (length bs) (length out)) (writes a bs) noRoom (omega arith) tt
 
   judged-writing : {B : Type 0} (m : Reading B) (next : B → Writing A) → NotZero m → ((b : B) → WritingNotZero (next b))
       → WritingNotZero (judged m refuses next)
   unfolding WritingNotZero NotZero judged
   judged-writing (read b left) next h later = later b
   judged-writing (refused n) next h later = h
-
-  -- where numbers are asked for
-  asked-writing : (there : Bool) (w : Writing A) → WritingNotZero w → WritingNotZero (pick there w (refuses notThere))
-  unfolding WritingNotZero pick
-  asked-writing true w h = h
-  asked-writing false w h = omega arith
 
 merge-told-of : (w : Writing Bool) → WritingNotZero w → ToldByNumber (mergedGiven (mergeAnswer w))
 unfolding WritingNotZero mergeAnswer mergedGiven
@@ -151,7 +158,8 @@ merge-told-of (writes clipped bs) h = gives-told _
 pub merge-told : (s : List ℕ) (i j : ℕ) (out : List ℕ) → ToldByNumber (mergedGiven (mergeAnswer (withRoom out (mergeWriting s i j))))
 unfolding mergeWriting WritingNotZero
 merge-told s i j out =
-    merge-told-of _ (room-not-zero out (mergeWriting s i j) (judged-writing (sheet s) _ (sheet-numbered .not-zero s) λ sh. asked-writing _ _ tt))
+    merge-told-of _ (room-not-zero out (mergeWriting s i j)
+    (judged-writing (sheet s) _ (sheet-numbered .not-zero s) λ sh. test-writing _ _ notThere (omega arith) tt))
 
 build-told-of : (w : Writing ℕ) → WritingNotZero w → ToldByNumber (builtGiven (buildAnswer w))
 unfolding WritingNotZero buildAnswer builtGiven
@@ -162,6 +170,75 @@ pub build-told : (s : List ℕ) (limit : ℕ) (out : List ℕ) → ToldByNumber 
 unfolding buildWriting WritingNotZero
 build-told s limit out =
     build-told-of _ (room-not-zero out (buildWriting s limit) (judged-writing (sheet s) _ (sheet-numbered .not-zero s) λ sh. tt))
+
+output-told-of : (w : Writing (Unit {0})) → WritingNotZero w → ToldByNumber (outputGiven (outputAnswer w))
+unfolding WritingNotZero outputAnswer outputGiven
+output-told-of (refuses n) h = refusal-told n _ h
+output-told-of (writes u bs) h = gives-told _
+
+text-not-zero : (ls : List (List ℕ)) (f : Forest) → WritingNotZero (textWriting ls f)
+unfolding textWriting WritingNotZero
+text-not-zero ls f = test-writing _ _ notWritable (omega arith) tt
+
+pattern-not-zero : (s p : List ℕ) → WritingNotZero (patternWriting s p)
+unfolding patternWriting
+pattern-not-zero s p =
+    judged-writing (sheet s) _ (sheet-numbered .not-zero s) λ sh.
+    judged-writing (onlyPattern (length (sh .labels)) p) _ (only-pattern-numbered (length (sh .labels)) .not-zero p) λ f.
+    text-not-zero (sh .labels) f
+
+subscription-not-zero : (s : List ℕ) (i : ℕ) → WritingNotZero (subscriptionWriting s i)
+unfolding subscriptionWriting
+subscription-not-zero s i =
+    judged-writing (sheet s) _ (sheet-numbered .not-zero s) λ sh.
+    test-writing _ _ notThere (omega arith) (text-not-zero (sh .labels) (subscription sh i))
+
+pub write-pattern-told : (s p out : List ℕ) → ToldByNumber (outputGiven (outputAnswer (withRoom out (patternWriting s p))))
+write-pattern-told s p out = output-told-of _ (room-not-zero out (patternWriting s p) (pattern-not-zero s p))
+
+pub write-subscription-told : (s : List ℕ) (i : ℕ) (out : List ℕ) → ToldByNumber (outputGiven (outputAnswer (withRoom out (subscriptionWriting s i))))
+write-subscription-told s i out = output-told-of _ (room-not-zero out (subscriptionWriting s i) (subscription-not-zero s i))
+
+-- ---- and of a line read: a place comes with 13 alone, and is at most 1,024
+
+unfoldable PlaceTold : Lined → Type 0
+PlaceTold (lined.Refused n place) = (1 ≤ n) × (place ≤ longestLine) × ((n ≡ notALine → ⊥) → place ≡ 0)
+PlaceTold (lined.Wrote long) = Unit {0}
+
+-- what is written comes with none
+written-placed : (w : Writing (Unit {0})) → WritingNotZero w → PlaceTold (linedAnswer w)
+unfolding WritingNotZero linedAnswer PlaceTold
+written-placed (refuses n) h = (h, omega arith, λ other. refl)
+written-placed (writes u bs) h = tt
+
+drawn-not-zero : (ls : List (List ℕ)) (ds : List Drawn) → WritingNotZero (drawnWriting ls ds)
+unfolding drawnWriting WritingNotZero
+drawn-not-zero ls ds =
+    test-writing _ _ labelUnknown (omega arith) (test-writing _ _ countOutside (omega arith) (test-writing _ _ secondNear (omega arith) tt))
+
+line-placed : (s line out : List ℕ) → PlaceTold (lineAnswer out s line)
+unfolding lineAnswer lineThen judged lineJudged PlaceTold NotZero
+line-placed s line out = by-sheet (sheet s) (sheet-numbered .not-zero s)
+  where
+    next : Sheet → List Drawn → Lined
+    next sh ds = linedAnswer (withRoom out (drawnWriting (sh .labels) ds))
+
+    by-line : (sh : Sheet) (r : LineRead) → readLine line ≡ r → PlaceTold (lineJudged r (lined.Refused notALine) (next sh))
+    by-line sh (offAt i) e = (omega arith, ⊎-elim (λ f. f .0) (λ f. omega arith) (refused-place line i e), λ other. absurd (other refl))
+    by-line sh (draws ds) e = written-placed _ (room-not-zero out (drawnWriting (sh .labels) ds) (drawn-not-zero (sh .labels) ds))
+
+    by-sheet : (m : Reading Sheet) → NotZero m
+        → PlaceTold (judged m (λ n. lined.Refused n 0) (λ sh. lineJudged (readLine line) (lined.Refused notALine) (next sh)))
+    by-sheet (read sh left) h = by-line sh (readLine line) refl
+    by-sheet (refused n) h = (h, omega arith, λ other. refl)
+
+lined-told-of : (x : Lined) → PlaceTold x → ToldByNumber (linedGiven x)
+unfolding PlaceTold linedGiven
+lined-told-of (lined.Refused n place) h = refusal-told n _ (h .0)
+lined-told-of (lined.Wrote long) h = gives-told _
+
+pub read-line-told : (s line out : List ℕ) → ToldByNumber (linedGiven (lineAnswer out s line))
+read-line-told s line out = lined-told-of _ (line-placed s line out)
 
 -- ---- so number 0 means that every part was read
 
@@ -309,6 +386,25 @@ unfolding tabledGiven refusal gives
 tabled-cases (tabled.Refused n) h = refl
 tabled-cases (tabled.Delivered set tried) h = absurd (false≢true h)
 
+output-cases : RefusesWithZeros outputGiven 0
+unfolding outputGiven refusal gives
+output-cases (output.Refused n) h = refl
+output-cases (output.Wrote k) h = absurd (false≢true h)
+
+-- save the place
+lined-cases : (x : Lined) → linedGiven x .refused ≡ true
+    → linedGiven x ≡ refusal (linedGiven x .number) (record { place = linedGiven x .values .place; length = 0 })
+unfolding linedGiven refusal gives
+lined-cases (lined.Refused n place) h = refl
+lined-cases (lined.Wrote long) h = absurd (false≢true h)
+
+-- which comes with 13 alone
+lined-place : (x : Lined) → PlaceTold x
+    → (linedGiven x .values .place ≤ longestLine) × ((linedGiven x .number ≡ notALine → ⊥) → linedGiven x .values .place ≡ 0)
+unfolding linedGiven refusal gives PlaceTold
+lined-place (lined.Refused n place) h = (h .1, h .2)
+lined-place (lined.Wrote long) h = (omega arith, λ other. refl)
+
 -- a refused writing leaves the output as found
 merge-as-found : (out : List ℕ) (w : Writing Bool) → mergedGiven (mergeAnswer w) .refused ≡ true → after out w ≡ out
 unfolding mergeAnswer mergedGiven refusal gives after
@@ -319,6 +415,44 @@ build-as-found : (out : List ℕ) (w : Writing ℕ) → builtGiven (buildAnswer 
 unfolding buildAnswer builtGiven refusal gives after
 build-as-found out (refuses n) h = refl
 build-as-found out (writes rounds bs) h = absurd (false≢true h)
+
+output-as-found : (out : List ℕ) (w : Writing (Unit {0})) → outputGiven (outputAnswer w) .refused ≡ true → after out w ≡ out
+unfolding outputAnswer outputGiven refusal gives after
+output-as-found out (refuses n) h = refl
+output-as-found out (writes u bs) h = absurd (false≢true h)
+
+output-zeros : (found : List ℕ) (w : Writing (Unit {0})) → ToldByNumber (outputGiven (outputAnswer w)) → (g : Given ℕ) (left : List ℕ)
+    → g ≡ outputGiven (outputAnswer w) → left ≡ after found w → 1 ≤ g .number → (g ≡ refusal (g .number) 0) × (left ≡ found)
+unfolding refusal
+output-zeros found w told g left answer output h =
+    let zeros = zeros-of outputGiven 0 output-cases (outputAnswer w) told g answer h in
+    (zeros, output ∙ output-as-found found w (ap (λ (x : Given ℕ). x .refused) (sym answer ∙ zeros)))
+
+-- and so does a refused line
+line-as-found : (s line out : List ℕ) → linedGiven (lineAnswer out s line) .refused ≡ true → lineOutput out s line ≡ out
+unfolding lineAnswer lineOutput lineThen judged lineJudged linedAnswer linedGiven refusal gives after
+line-as-found s line out h = by-sheet (sheet s) h
+  where
+    next : Sheet → List Drawn → Lined
+    next sh ds = linedAnswer (withRoom out (drawnWriting (sh .labels) ds))
+
+    left : Sheet → List Drawn → List ℕ
+    left sh ds = after out (withRoom out (drawnWriting (sh .labels) ds))
+
+    written : (w : Writing (Unit {0})) → linedGiven (linedAnswer w) .refused ≡ true → after out w ≡ out
+    written (refuses n) k = refl
+    written (writes u bs) k = absurd (false≢true k)
+
+    by-line : (sh : Sheet) (r : LineRead) → linedGiven (lineJudged r (lined.Refused notALine) (next sh)) .refused ≡ true
+        → lineJudged r (λ i. out) (left sh) ≡ out
+    by-line sh (offAt i) k = refl
+    by-line sh (draws ds) k = written (withRoom out (drawnWriting (sh .labels) ds)) k
+
+    by-sheet : (m : Reading Sheet)
+        → linedGiven (judged m (λ n. lined.Refused n 0) (λ sh. lineJudged (readLine line) (lined.Refused notALine) (next sh))) .refused ≡ true
+        → judged m (λ n. out) (λ sh. lineJudged (readLine line) (λ i. out) (left sh)) ≡ out
+    by-sheet (read sh rest) k = by-line sh (readLine line) k
+    by-sheet (refused n) k = refl
 
 module _ (s : List ℕ) where
   pub matches-zeros : (d : List ℕ) (i : ℕ) (g : Given Bool) → MatchesGives s d i g → 1 ≤ g .number → g ≡ refusal (g .number) false
@@ -353,6 +487,28 @@ module _ (s : List ℕ) where
       let w = withRoom found (buildWriting s limit) in
       let zeros = zeros-of builtGiven _ built-cases (buildAnswer w) (build-told s limit found) g (p .answer) h in
       (zeros, p .output ∙ build-as-found found w (ap (λ (x : Given BuildValues). x .refused) (sym (p .answer) ∙ zeros)))
+
+  pub write-pattern-zeros : (p found : List ℕ) (g : Given ℕ) (left : List ℕ) → WritePatternGives s p found g left → 1 ≤ g .number
+      → (g ≡ refusal (g .number) 0) × (left ≡ found)
+  write-pattern-zeros p found g left r = output-zeros found _ (write-pattern-told s p found) g left (r .answer) (r .output)
+
+  pub write-subscription-zeros : (i : ℕ) (found : List ℕ) (g : Given ℕ) (left : List ℕ) → WriteSubscriptionGives s i found g left → 1 ≤ g .number
+      → (g ≡ refusal (g .number) 0) × (left ≡ found)
+  write-subscription-zeros i found g left r = output-zeros found _ (write-subscription-told s i found) g left (r .answer) (r .output)
+
+  -- of a line read, save the place
+  pub read-line-zeros : (line found : List ℕ) (g : Given LineValues) (left : List ℕ) → ReadLineGives s line found g left → 1 ≤ g .number
+      → (g ≡ refusal (g .number) (record { place = g .values .place; length = 0 })) × (left ≡ found)
+  read-line-zeros line found g left r h =
+      let x = lineAnswer found s line in
+      let same : linedGiven x .number ≡ g .number = ap (λ (y : Given LineValues). y .number) (sym (r .answer)) in
+      let is-refused : linedGiven x .refused ≡ true = read-line-told s line found ∙ ap not (ne-eqb (linedGiven x .number) 0 (λ z. omega arith)) in
+      (rw (r .answer) (lined-cases x is-refused), r .output ∙ line-as-found s line found is-refused)
+
+  -- which is 0 with every number but 13, and at most 1,024
+  pub read-line-place : (line found : List ℕ) (g : Given LineValues) (left : List ℕ) → ReadLineGives s line found g left
+      → (g .values .place ≤ longestLine) × ((g .number ≡ notALine → ⊥) → g .values .place ≡ 0)
+  read-line-place line found g left r = rw (r .answer) (lined-place (lineAnswer found s line) (line-placed s line found))
 
 -- no label, no bytes
 no-label : (ls : List (List ℕ)) (n : ℕ) → isLabel ls n ≡ false → labelAt ls n ≡ []

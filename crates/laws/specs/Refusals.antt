@@ -6,6 +6,7 @@ use native.Mathlib.Omega.{arith}
 use Rattle.meaning.specs.Reader.{Reading, read, refused, Reader, go-on, _>>=_, _>>_, give, repeat, unless, byte, bytes, number, end}
 use Rattle.meaning.specs.Sections.{Sheet, label, labels, aStep, steps, pattern, sheet, aNode, nodes, document, entry, table}
 use Rattle.meaning.specs.Calls.{fairTable}
+use Rattle.meaning.specs.LineCalls.{onlyPattern}
 use Rattle.meaning.specs.Printing.{asking}
 use Rattle.meaning.specs.declared.Step.{Step}
 
@@ -106,6 +107,10 @@ some-steps known (suc n) before = with-value (a-step known before) λ s. with-va
 a-pattern : (known : ℕ) → Numbered (pattern known)
 unfolding pattern
 a-pattern known = with-value one λ n. without (test _ _ (omega arith)) (with-value (some-steps known n []) λ ss. given _)
+
+pub only-pattern-numbered : (known : ℕ) → Numbered (onlyPattern known)
+unfolding onlyPattern
+only-pattern-numbered known = with-value (a-pattern known) λ f. without the-end (given _)
 
 pub sheet-numbered : Numbered sheet
 unfolding sheet
