@@ -8,7 +8,8 @@ use mathlib.Core.List.{List, []}
 use native.Mathlib.Omega.{arith}
 use borrow.Author.Tests.{ne-eqb, le-leb, leb-false}
 use lib.Dec.{eqb, leb}
-use lib.ListN.{length, List·getD-eq-default}
+use lib.ListN.{length, take, drop, List·getD-eq-default}
+use lib.Seq.{take-at}
 use Rattle.base.specs.Choice.{pick}
 use Rattle.meaning.specs.Numbers.{done, countOutside, secondNear, noRoom, notThere, notALine, labelUnknown, notWritable, longestLine}
 use Rattle.meaning.specs.Reader.{Reading, read, refused, Went, numberOf}
@@ -260,6 +261,28 @@ module _ (s left : List ℕ) (sh : Sheet) (was-read : sheet s ≡ read sh left) 
   pub table-0 : (t : List ℕ) → tableNumber s t ≡ 0 → Went (fairTable sh t)
   unfolding tableNumber judged
   table-0 t h = number-0 (fairTable sh t) (fair-table-numbered sh .not-zero t) (rw was-read at h)
+
+-- and that the output begins with what was to be written
+output-0 : (found : List ℕ) (w : Writing (Unit {0})) → WritingNotZero w → (g : Given ℕ) (left : List ℕ)
+    → g ≡ outputGiven (outputAnswer (withRoom found w)) → left ≡ after found (withRoom found w) → g .number ≡ 0 → w ≡ writes tt (take (g .values) left)
+unfolding WritingNotZero withRoom pick outputAnswer outputGiven refusal gives after
+output-0 found (refuses n) h g left answer output e = absurd (omega (arith, ap (λ (x : Given ℕ). x .number) answer))
+output-0 found (writes u bs) h g left answer output e = go (leb (length bs) (length found)) answer output
+  where
+    go : (fits : Bool) → (let v = pick fits (writes u bs) (refuses noRoom) in g ≡ outputGiven (outputAnswer v) → left ≡ after found v
+        → writes u bs ≡ writes tt (take (g .values) left))
+    go true a o =
+        let long : g .values ≡ length bs = ap (λ (x : Given ℕ). x .values) a in
+        ap (writes tt) (rw (long, o) (sym (take-at bs (drop (length bs) found) (length bs) refl)))
+    go false a o = absurd (omega (arith, ap (λ (x : Given ℕ). x .number) a))
+
+pub write-pattern-0 : (s p found : List ℕ) (g : Given ℕ) (left : List ℕ) → WritePatternGives s p found g left → g .number ≡ 0
+    → patternWriting s p ≡ writes tt (take (g .values) left)
+write-pattern-0 s p found g left r = output-0 found (patternWriting s p) (pattern-not-zero s p) g left (r .answer) (r .output)
+
+pub write-subscription-0 : (s : List ℕ) (i : ℕ) (found : List ℕ) (g : Given ℕ) (left : List ℕ) → WriteSubscriptionGives s i found g left → g .number ≡ 0
+    → subscriptionWriting s i ≡ writes tt (take (g .values) left)
+write-subscription-0 s i found g left r = output-0 found (subscriptionWriting s i) (subscription-not-zero s i) g left (r .answer) (r .output)
 
 -- a label that is there
 pub label-0 : (s d : List ℕ) (n : ℕ) → labelNumber s d n ≡ 0

@@ -6,12 +6,13 @@ use Prim.Native.Nat.{ℕ, suc, _+_, _≤_, _<_}
 use mathlib.Core.Path.{_≡_, refl, sym, ap, _∙_}
 use mathlib.Core.Logic.{_⊎_, inl, inr, _↔_}
 use mathlib.Core.Bool.{Bool, true, false}
-use mathlib.Core.List.{List, [], List·Memᴰ}
+use mathlib.Core.List.{List, [], map, List·Memᴰ}
 use borrow.Author.Tests.{ltb-true, lt-ltb}
 use lib.ListN.{length, take}
 use Rattle.base.specs.Bools.{not-both}
 use Rattle.base.specs.Choice.{pick}
-use Rattle.meaning.specs.Numbers.{mostSteps, notThere}
+use Rattle.base.specs.Lists.{every}
+use Rattle.meaning.specs.Numbers.{countOutside, secondNear, notThere, notALine, labelUnknown, notWritable, mostSteps, longestLine}
 use Rattle.meaning.specs.Reader.{read, refused, Went, Reader}
 use Rattle.meaning.specs.Forest.{Forest, stepsOf}
 use Rattle.meaning.specs.Sections.{Sheet, sheet, Document, document, Node, Entry}
@@ -25,17 +26,25 @@ use Rattle.meaning.specs.LabelBytes.{labelsOf, isLabel, labelAt}
 use Rattle.meaning.specs.ByBytes.{Satisfied}
 use Rattle.meaning.specs.Written.{patternBytes, sheetBytes, tableBytes}
 use Rattle.meaning.specs.Calls.{judged, fairTable, threeJudged, isSubscription, subscription, sheetNumber, documentNumber, tableNumber}
-use Rattle.meaning.specs.Calls.{matchesAnswer, coversAnswer, writes, withRoom, after, mergeWriting, mergeAnswer}
+use Rattle.meaning.specs.Calls.{matchesAnswer, coversAnswer, refuses, writes, withRoom, after, mergeWriting, mergeAnswer}
 use Rattle.meaning.specs.Calls.{buildWriting, buildAnswer, plainAnswer, tableAnswer, wantedAnswer, labelNumber, labelPart}
+use Rattle.meaning.specs.PatternText.{patternText}
+use Rattle.meaning.specs.Notation.{writable, called, Sketch, Line, Drawn, drawnSize, stepsDrawn, RefusedAt}
+use Rattle.meaning.specs.Lines.{offAt, draws, readLine}
+use Rattle.meaning.specs.LineCalls.{knownDrawn, numberedStep, lineAnswer, stepWritable, textWriting, onlyPattern}
+use Rattle.meaning.specs.LineCalls.{patternWriting, subscriptionWriting, outputAnswer}
 use Rattle.meaning.specs.Printing.{asking}
 use Rattle.meaning.specs.Given.{Given, refusal, ToldByNumber, askedGiven, MergeValues, mergedGiven}
-use Rattle.meaning.specs.Given.{BuildValues, builtGiven, routedGiven, RouteValues, tabledGiven}
+use Rattle.meaning.specs.Given.{BuildValues, builtGiven, LineValues, linedGiven, outputGiven, routedGiven, RouteValues, tabledGiven}
 use Rattle.meaning.specs.Promises.{MatchesGives, CoversGives, MergeGives, BuildGives, PlainRouteGives, TableRouteGives, WantedGives}
+use Rattle.meaning.specs.Promises.{ReadLineGives, WritePatternGives, WriteSubscriptionGives}
 use Rattle.meaning.specs.declared.Asked.{Asked}
 use Rattle.meaning.specs.declared.Asked.the-variants as asked
+use Rattle.meaning.specs.declared.Lined.the-variants as lined
 use Rattle.meaning.specs.declared.Routed.the-variants as routed
 use Rattle.meaning.specs.declared.Tabled.the-variants as tabled
 use Rattle.laws.specs.Refusals.{NotZero, Numbered, sheet-numbered, document-numbered, fair-table-numbered, asking-numbered}
+use Rattle.laws.specs.Refusals.{only-pattern-numbered}
 use Rattle.laws.specs.AnswerNumbers as answers
 use Rattle.laws.specs.Bridge.{forest-stepsOf}
 use Rattle.laws.specs.WrittenRising.{written-rises}
@@ -52,6 +61,14 @@ use Rattle.laws.specs.Passing as built
 use Rattle.laws.specs.Routes.{table-is-plain, fair-table-fair, delivered-bit}
 use Rattle.laws.specs.Rising.{Rising}
 use Rattle.laws.specs.WantedRoutes.{routeNotZero, wanted-by-table, wanted-by, answer-wanted, tried-no-more, tried-all}
+use Rattle.laws.specs.MergeNears.{nears}
+use Rattle.laws.specs.LineMeaning.{one-sketch}
+use Rattle.laws.specs.LineLabels.{labels-writable}
+use Rattle.laws.specs.LineJudged.{line-accepted, accepted-line, refused-place, place-refused}
+use Rattle.laws.specs.LineForest.{drawnForest, drawn-steps, drawn-sound, drawn-unknown, drawn-many, drawn-nears, drawn-written}
+use Rattle.laws.specs.LineAnswers.{LineWrites, LineRefused, sheet-refused, other-refused, refused-other, line-writes, line-refused}
+use Rattle.laws.specs.LineReadsBack.{read-only-pattern, pattern-is-line, pattern-line-short, pattern-reads-back}
+use Rattle.laws.specs.LineReadsBack.{subscription-is-line, subscription-line-short, subscription-reads-back}
 use Rattle.laws.specs.Cases as cases
 
 -- ======== 1. "Every call may be given arbitrary bytes and numbers. It ends, reads and writes only inside what it was lent, and
@@ -60,7 +77,7 @@ use Rattle.laws.specs.Cases as cases
 --
 -- That a call ends and stays inside what it was lent is part of the proof of every function, and bytes that are lent to be read
 -- can't be altered, by their type. The numbers are those of `Numbers`; inside the bytes the order is that of `Sections`, among
--- the parts that of `Calls`. `sheds` and `lowest_shed` refuse nothing. No change request has said otherwise.
+-- the parts that of `Calls` and `LineCalls`. `sheds` and `lowest_shed` refuse nothing. Instead of zeros a place comes with 13 (#102).
 
 -- ---- refusals are never 0: where a reading is refused the number is not 0
 
@@ -77,6 +94,9 @@ document-refusal-not-0 sh = not-0 (document sh) (document-numbered sh)
 
 pub table-refusal-not-0 : (sh : Sheet) (t : List ℕ) (n : ℕ) → fairTable sh t ≡ refused n → 1 ≤ n
 table-refusal-not-0 sh = not-0 (fairTable sh) (fair-table-numbered sh)
+
+pub pattern-refusal-not-0 : (known : ℕ) (p : List ℕ) (n : ℕ) → onlyPattern known p ≡ refused n → 1 ≤ n
+pattern-refusal-not-0 known = not-0 (onlyPattern known) (only-pattern-numbered known)
 
 pub program-refusal-not-0 : (s : List ℕ) (n : ℕ) → asking s ≡ refused n → 1 ≤ n
 program-refusal-not-0 = not-0 asking asking-numbered
@@ -118,6 +138,15 @@ module _ (s : List ℕ) where
   pub wanted-told-by-number : (t d : List ℕ) → ToldByNumber (askedGiven (wantedAnswer s t d))
   wanted-told-by-number = answers.wanted-told s
 
+  pub read-line-told-by-number : (line out : List ℕ) → ToldByNumber (linedGiven (lineAnswer out s line))
+  read-line-told-by-number = answers.read-line-told s
+
+  pub write-pattern-told-by-number : (p out : List ℕ) → ToldByNumber (outputGiven (outputAnswer (withRoom out (patternWriting s p))))
+  write-pattern-told-by-number = answers.write-pattern-told s
+
+  pub write-subscription-told-by-number : (i : ℕ) (out : List ℕ) → ToldByNumber (outputGiven (outputAnswer (withRoom out (subscriptionWriting s i))))
+  write-subscription-told-by-number = answers.write-subscription-told s
+
 -- ---- the order: the number that a route gives is that of the first part that is refused
 
 -- of the plain route the document's, which is judged beside the sheet and after it
@@ -158,6 +187,23 @@ module _ (s : List ℕ) where
 
   pub wanted-refused : (t d : List ℕ) (g : Given Bool) → WantedGives s t d g → 1 ≤ g .number → g ≡ refusal (g .number) false
   wanted-refused = answers.wanted-zeros s
+
+  pub write-pattern-refused : (p found : List ℕ) (g : Given ℕ) (left : List ℕ) → WritePatternGives s p found g left → 1 ≤ g .number
+      → (g ≡ refusal (g .number) 0) × (left ≡ found)
+  write-pattern-refused = answers.write-pattern-zeros s
+
+  pub write-subscription-refused : (i : ℕ) (found : List ℕ) (g : Given ℕ) (left : List ℕ) → WriteSubscriptionGives s i found g left → 1 ≤ g .number
+      → (g ≡ refusal (g .number) 0) × (left ≡ found)
+  write-subscription-refused = answers.write-subscription-zeros s
+
+  -- save the place, which is 0 with every number but 13, and at most 1,024
+  pub read-line-refused : (line found : List ℕ) (g : Given LineValues) (left : List ℕ) → ReadLineGives s line found g left → 1 ≤ g .number
+      → (g ≡ refusal (g .number) (record { place = g .values .place; length = 0 })) × (left ≡ found)
+  read-line-refused = answers.read-line-zeros s
+
+  pub place-with-13 : (line found : List ℕ) (g : Given LineValues) (left : List ℕ) → ReadLineGives s line found g left
+      → (g .values .place ≤ longestLine) × ((g .number ≡ notALine → ⊥) → g .values .place ≡ 0)
+  place-with-13 = answers.read-line-place s
 
   pub label-refused : (d : List ℕ) (n : ℕ) → 1 ≤ labelNumber s d n → labelPart s d n ≡ []
   label-refused = answers.label-empty s
@@ -355,3 +401,102 @@ wanted-early ns es ps = tried-no-more ns ps es
 pub unwanted-late : (ns : List Node) (es : List Entry) (ps : List Forest) → Rising (parentsOf ns) → fair ps es ≡ true → wanted ns ps ≡ false
     → triedUntilWanted ns es ps ≡ tried ns es ps
 unwanted-late ns es ps up just h = tried-all ns ps es (answer-wanted ns ps es up just ∙ h)
+
+-- ======== #102 Read what growers type. "Read one line of at most 1,024 bytes (enough for any 16 steps) with a sheet's labels and give
+-- steps, or refuse. Labels holding any of / * [ ] . or a line feed are not writable and not readable. Also write steps as text in 01's
+-- form. What is written reads back as the same steps. The reader accepts exactly these lines, defined apart from it."
+--
+-- What a line is and what it draws stands in `meaning`, Notation. `LineWrites` and `LineRefused` say what the call answers, and how it
+-- leaves its output, whatever that is.
+
+-- ---- the reader accepts exactly the lines of at most 1,024 bytes, and gives the steps that they draw
+pub accepting : (line : List ℕ) (ds : List Drawn)
+    → (readLine line ≡ draws ds) ↔ ((length line ≤ longestLine) × (t : Sketch) × Line line t × (ds ≡ stepsDrawn t))
+accepting line ds = (accepted-line line ds, λ (short, t, l, same). line-accepted line t l short ∙ ap draws (sym same))
+
+-- a line has one meaning
+pub one-drawing : (line : List ℕ) (t u : Sketch) → Line line t → Line line u → t ≡ u
+one-drawing = one-sketch
+
+-- a label that is not writable is not readable
+pub not-readable : (line : List ℕ) (t : Sketch) → Line line t → (d : Drawn) → List·Memᴰ d (stepsDrawn t) → (l : List ℕ) → d .name ≡ called l → writable l ≡ true
+not-readable = labels-writable
+
+-- ---- all other bytes are off, at the first byte that no line of any length could have there (the length if they only end early), at
+-- most 1,024, and 1,024 for a sound longer line
+pub off-at : (line : List ℕ) (i : ℕ) → (readLine line ≡ offAt i) ↔ RefusedAt line i
+off-at line i = (refused-place line i, place-refused line i)
+
+-- a sheet that is refused comes first
+pub line-after-sheet : (s line : List ℕ) (n : ℕ) → sheet s ≡ refused n → LineRefused s line n 0
+line-after-sheet = sheet-refused
+
+module _ (s left : List ℕ) (sh : Sheet) (was-read : sheet s ≡ read sh left) where
+  -- 13 comes for those bytes alone, and with that place
+  pub not-a-line : (line : List ℕ) (i : ℕ) (out : List ℕ) → (lineAnswer out s line ≡ lined.Refused notALine i) ↔ RefusedAt line i
+  not-a-line line i out = (refused-other s left sh was-read line out i, λ h. other-refused s left sh was-read line i h .answer out)
+
+  -- ---- a line, with a sheet's labels
+  module _ (line : List ℕ) (t : Sketch) (is-line : Line line t) (short : length line ≤ longestLine) where
+    -- 14: a label is unknown
+    pub label-unknown : every (knownDrawn (sh .labels)) (stepsDrawn t) ≡ false → LineRefused s line labelUnknown 0
+    label-unknown h = line-refused s left sh was-read line t is-line short labelUnknown (drawn-unknown (sh .labels) t h)
+
+    -- then 5: there are over 16 steps
+    pub too-many-steps : every (knownDrawn (sh .labels)) (stepsDrawn t) ≡ true → mostSteps < drawnSize t → LineRefused s line countOutside 0
+    too-many-steps known many = line-refused s left sh was-read line t is-line short countOutside (drawn-many (sh .labels) t known many)
+
+    -- then 9: there is a second near step with parent 0
+    pub second-near : every (knownDrawn (sh .labels)) (stepsDrawn t) ≡ true → drawnSize t ≤ mostSteps → 1 < nears (drawnForest (sh .labels) t)
+        → LineRefused s line secondNear 0
+    second-near known few two = line-refused s left sh was-read line t is-line short secondNear (drawn-nears (sh .labels) t known few two)
+
+    -- otherwise what is written, or 10 where there is no room for it, is the pattern of its steps, which passes the check
+    pub line-as-pattern : every (knownDrawn (sh .labels)) (stepsDrawn t) ≡ true → drawnSize t ≤ mostSteps → nears (drawnForest (sh .labels) t) ≤ 1
+        → (let f = drawnForest (sh .labels) t in
+        LineWrites s line (patternBytes f)
+        × (stepsOf f ≡ map (numberedStep (sh .labels)) (stepsDrawn t))
+        × (onlyPattern (length (sh .labels)) (patternBytes f) ≡ read f []))
+    line-as-pattern known few lone = (
+      line-writes s left sh was-read line t is-line short _ (drawn-written (sh .labels) t known few lone),
+      sym (drawn-steps (sh .labels) t),
+      read-only-pattern (length (sh .labels)) _ (drawn-sound (sh .labels) t few lone),
+    )
+
+  -- ---- steps are written as text in 01's form, unless a label is not writable: 15
+  pub writing-pattern : (p rest : List ℕ) (f : Forest) → onlyPattern (length (sh .labels)) p ≡ read f rest
+      → patternWriting s p ≡ pick (every (stepWritable (sh .labels)) (stepsOf f)) (writes tt (patternText (sh .labels) f)) (refuses notWritable)
+  unfolding patternWriting textWriting judged
+  writing-pattern p rest f pattern-read = rw (was-read, pattern-read)
+
+  pub writing-subscription : (i : ℕ) → isSubscription sh i ≡ true → (let f = subscription sh i in
+      subscriptionWriting s i ≡ pick (every (stepWritable (sh .labels)) (stepsOf f)) (writes tt (patternText (sh .labels) f)) (refuses notWritable))
+  unfolding subscriptionWriting textWriting judged pick
+  writing-subscription i there = rw (was-read, there)
+
+-- ---- what is written is a line of at most 1,024 bytes, and reads back as the same steps
+
+-- the text is such a line, and what is written of it is these bytes
+pub record ReadsBack (s text bs : List ℕ) : Type 0 where
+  pub drawing : Sketch
+  pub line : Line text drawing
+  pub short : length text ≤ longestLine
+  pub back : LineWrites s text bs
+
+-- so it is with what the calls leave in their output, as many bytes as they say: a pattern's bytes come back
+pub pattern-back : (s p found : List ℕ) (g : Given ℕ) (out : List ℕ) → WritePatternGives s p found g out → g .number ≡ 0 → ReadsBack s (take (g .values) out) p
+pattern-back s p found g out r h =
+    let text = take (g .values) out in
+    let w = answers.write-pattern-0 s p found g out r h in
+    let l = pattern-is-line s p text w in
+    record { drawing = l .0; line = l .1; short = pattern-line-short s p text w; back = pattern-reads-back s p text w }
+
+-- and a subscription's steps
+pub subscription-back : (s left : List ℕ) (sh : Sheet) → sheet s ≡ read sh left
+    → (i : ℕ) (found : List ℕ) (g : Given ℕ) (out : List ℕ) → WriteSubscriptionGives s i found g out → g .number ≡ 0
+    → ReadsBack s (take (g .values) out) (patternBytes (subscription sh i))
+subscription-back s left sh was-read i found g out r h =
+    let text = take (g .values) out in
+    let w = answers.write-subscription-0 s i found g out r h in
+    let l = subscription-is-line s i text w in
+    record { drawing = l .0; line = l .1; short = subscription-line-short s i text w; back = subscription-reads-back s i text sh left was-read w }

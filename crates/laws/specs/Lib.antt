@@ -50,11 +50,12 @@ pub mod BytesDecide
 -- lines of the notation
 pub mod LineComplete
 pub mod LineMeaning
+pub mod LineLabels
 pub mod LineSound
 pub mod LinePlace
 pub mod LineJudged
-pub mod LineAnswers
 pub mod LineForest
+pub mod LineAnswers
 pub mod LineWritten
 pub mod LineReadsBack
 -- what was built passes the check

@@ -162,16 +162,3 @@ subscription-reads-back s i text sh left h w =
     let r = subscription-text s i text w in
     let same : r .0 .sh ≡ sh = cc in
     subst (λ f. LineWrites s text (patternBytes f)) (r .1 ∙ ap (λ x. subscription x i) same) (text-reads-back s text (r .0))
-
--- ---- what is written where sheet and pattern are sound
-
-module _ (s left : List ℕ) (sh : Sheet) (was-read : sheet s ≡ read sh left) where
-  -- of a pattern's bytes its text, unless a label is not writable
-  pub pattern-written : (f : Forest) → SoundPattern (length (sh .labels)) f → patternWriting s (patternBytes f) ≡ textWriting (sh .labels) f
-  unfolding patternWriting judged
-  pattern-written f sound = rw (was-read, read-only-pattern (length (sh .labels)) f sound)
-
-  -- so of a subscription
-  pub subscription-written : (i : ℕ) → isSubscription sh i ≡ true → subscriptionWriting s i ≡ textWriting (sh .labels) (subscription sh i)
-  unfolding subscriptionWriting judged pick
-  subscription-written i there = rw (was-read, there)
