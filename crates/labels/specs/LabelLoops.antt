@@ -1,5 +1,5 @@
--- What a turn of the loop over two labels keeps; the parts of a slice that are labels.
-use Prim.Native.Nat.{ℕ, suc, _+_, _-_, _<_, _≤_}
+-- What a turn of the loop over two labels keeps; the parts of a slice that are labels, and label n of a sheet.
+use Prim.Native.Nat.{ℕ, zero, suc, _+_, _-_, _<_, _≤_}
 use mathlib.Core.Path.{_≡_, refl, sym, ap, _∙_}
 use mathlib.Core.Bool.{Bool, true, false, _&&_}
 use mathlib.Core.List.{List, [], _∷_}
@@ -9,8 +9,11 @@ use lib.Seq.{drop-cons, take-all}
 use native.Mathlib.Omega.{arith}
 use native.Mathlib.Numerals.{add-one}
 use borrow.Author.Tests.{eq-eqb, ne-eqb}
+use Rattle.base.specs.Standing.{placeAfter, getD-standing}
 use Rattle.meaning.specs.Sections.{sameLabel}
-use Rattle.labels.specs.LabelPlaces.{textAt}
+use Rattle.meaning.specs.LabelBytes.{labelAt}
+use Rattle.labels.specs.LabelPlaces.{textAt, afterLabel, textsAt, labelsIn}
+use Rattle.labels.specs.LabelSection.{length-texts}
 
 -- ---- two labels, byte by byte
 
@@ -75,3 +78,26 @@ module _ (s : List ℕ) (p : ℕ) where
   pub text-whole : (r : ℕ) → r ≡ getD s p 0 → take (p + 1 + r - (p + 1)) (drop (p + 1) s) ≡ textAt s p
   unfolding textAt
   text-whole r e = let n : p + 1 + r - (p + 1) ≡ getD s p 0 = omega arith in ap (λ (k : ℕ). take k (drop (p + 1) s)) n
+
+-- ---- the bytes of label n of a sheet
+
+module _ (s : List ℕ) where
+  -- 0 is no label
+  pub label-zero : (n : ℕ) → n ≡ 0 → [] ≡ labelAt (labelsIn s) n
+  unfolding labelAt
+  label-zero zero e = refl
+  label-zero (suc n) e = absurd (omega arith)
+
+  -- nor is a number after the last
+  pub label-over : (n : ℕ) → getD s 0 0 < n → [] ≡ labelAt (labelsIn s) n
+  unfolding labelAt labelsIn
+  label-over zero h = refl
+  label-over (suc n) h = sym (List·getD-eq-default (textsAt s 1 (getD s 0 0)) [] (omega (arith, length-texts s 1 (getD s 0 0))))
+
+  -- the others stand at their places
+  pub label-there : (n : ℕ) → (n ≡ 0 → ⊥) → n ≤ getD s 0 0 → textAt s (placeAfter (afterLabel s) 1 (n - 1)) ≡ labelAt (labelsIn s) n
+  unfolding labelAt textsAt labelsIn
+  label-there zero h k = absurd (h refl)
+  label-there (suc n) h k =
+      let one : suc n - 1 ≡ n = omega arith in
+      ap (λ (m : ℕ). textAt s (placeAfter (afterLabel s) 1 m)) one ∙ sym (getD-standing (textAt s) (afterLabel s) 1 (getD s 0 0) n [] k)

@@ -12,6 +12,7 @@ ghost use Prim.Native.Nat.{_+_, _≤_, _<_};
 ghost use Rattle.base.specs.Lists.{some};
 ghost use Rattle.base.specs.Standing.{placeAfter};
 ghost use Rattle.meaning.specs.Sections.{sameLabel};
+ghost use Rattle.meaning.specs.LabelBytes.{labelAt};
 ghost use Rattle.meaning.specs.LineCalls.{numberFrom};
 ghost use Rattle.labels.specs.LabelPlaces.{textAt, afterLabel, textsAt, labelsIn};
 ghost use Rattle.labels.specs.LabelSection.{labelPlace, labelsPlace};
@@ -151,4 +152,17 @@ pub fn after_labels(s: &[u8], p: usize, n: usize) -> usize
         i += 1;
     }
     x
+}
+
+// The bytes of label n of the sheet s; 0 is no label, nor is a number after the last, and they have none.
+pub fn label_at(s: &[u8], n: usize) -> &[u8]
+    ensures { λ r. ⌜ now r ≡ labelAt (labelsIn (now (s .entry))) n ⌝ }
+{
+    if n == 0 {
+        return &s[..0];
+    }
+    if byte_at(s, 0) < n {
+        return &s[..0];
+    }
+    return text_at(s, after_labels(s, 1, n - 1));
 }

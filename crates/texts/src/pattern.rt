@@ -1,10 +1,8 @@
 // A pattern's text: / near, // far, * any; one child follows at once, several stand in brackets; a dot without steps.
 use crate::put_bytes;
 use crate::put_if;
-use labels::after_labels;
-use labels::text_at;
+use labels::label_at;
 use meaning::Step;
-use places::byte_at;
 use shapes::Pattern;
 ghost use mathlib.Core.Path.{_≡_};
 ghost use Rattle.meaning.specs.Forest.{axisOf};
@@ -32,11 +30,7 @@ fn put_label(out: &mut [u8], at: usize, s: &[u8], l: usize) -> usize
     if l == 0 {
         return put_bytes(out, at, b"*");
     }
-    if byte_at(s, 0) < l {
-        return at;
-    }
-    let place = after_labels(s, 1, l - 1);
-    put_bytes(out, at, text_at(s, place))
+    put_bytes(out, at, label_at(s, l))
 }
 
 // A step's axis and label; the next place.
