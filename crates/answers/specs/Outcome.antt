@@ -1,6 +1,6 @@
--- What a call that writes answers, and how it leaves the output: where something is written, where there is no room, where it refuses.
+-- What the merge and the build answer, and how they leave the output: where something is written, where there is no room, where they refuse.
 use Prim.Native.Nat.{ℕ}
-use mathlib.Core.Path.{_≡_, sym, ap, ap₂, _∙_}
+use mathlib.Core.Path.{_≡_, ap, ap₂, _∙_}
 use mathlib.Core.Bool.{Bool, true, false}
 use mathlib.Core.List.{List}
 use lib.Dec.{leb}
@@ -12,7 +12,7 @@ use Rattle.meaning.specs.Sections.{Sheet, Entry}
 use Rattle.meaning.specs.Merging.{merge}
 use Rattle.meaning.specs.Building.{Table, entriesFrom, build}
 use Rattle.meaning.specs.Written.{patternBytes, tableBytes}
-use Rattle.meaning.specs.Calls.{subscription, Writing, refuses, writes, withRoom, after, mergeAnswer, buildAnswer}
+use Rattle.meaning.specs.Calls.{subscription, Writing, refuses, writes, mergeAnswer, buildAnswer}
 use Rattle.meaning.specs.declared.Merged.{Merged}
 use Rattle.meaning.specs.declared.Merged.the-variants as merged
 use Rattle.meaning.specs.declared.Built.{Built}
@@ -24,37 +24,9 @@ use Rattle.merging.specs.Merges.{IsMerge}
 use Rattle.offering.specs.declared.Marked.{Marked}
 use Rattle.building.specs.Counting.{buildFrom, build-from}
 use Rattle.building.specs.declared.Made.{Made}
-use Rattle.writing.specs.OutputAfter.{writtenOver, after-writing}
+use Rattle.writing.specs.OutputAfter.{writtenOver}
+use Rattle.writing.specs.Gives.{Gives, gives-refusal, gives-same, gives-written, gives-no-room}
 use Rattle.answers.specs.Says.{bothThere, markedSays, mergeSays, tableSays, buildSays}
-
--- an answer and an output that a call which writes w gives
-abbrev pub Gives : {A R : Type 0} → (Writing A → R) → List ℕ → Writing A → R → List ℕ → Type 0
-Gives answered out w r now = (r ≡ answered (withRoom out w)) × (now ≡ after out (withRoom out w))
-
-module _ {A R : Type 0} (answered : Writing A → R) (out : List ℕ) where
-  -- a refusal leaves the output as found
-  gives-refusal : (n : ℕ) (w : Writing A) → refuses n ≡ w → Gives answered out w (answered (refuses n)) out
-  unfolding withRoom after
-  gives-refusal n w e = (ap (λ (v : Writing A). answered (withRoom out v)) e, ap (λ (v : Writing A). after out (withRoom out v)) e)
-
-  -- what is written is given by its equation
-  gives-same : (v w : Writing A) → v ≡ w → (r : R) (now : List ℕ) → Gives answered out v r now → Gives answered out w r now
-  gives-same v w e r now g = rw e at g
-
-  module _ (x : A) (bs : List ℕ) (room : Bool) (said : room ≡ leb (length bs) (length out)) (now : List ℕ) (over : now ≡ writtenOver out bs) where
-    -- the output afterwards
-    gives-left : now ≡ after out (withRoom out (writes x bs))
-    gives-left = over ∙ sym (after-writing out bs x)
-
-    -- where there is room the bytes are written
-    gives-written : room ≡ true → Gives answered out (writes x bs) (answered (writes x bs)) now
-    unfolding withRoom pick
-    gives-written t = (rw (sym said ∙ t), gives-left)
-
-    -- where there is none it is refused
-    gives-no-room : room ≡ false → Gives answered out (writes x bs) (answered (refuses noRoom)) now
-    unfolding withRoom pick
-    gives-no-room f = (rw (sym said ∙ f), gives-left)
 
 -- ---- the merge of two subscriptions
 

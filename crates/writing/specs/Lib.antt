@@ -1,2 +1,3 @@
 pub mod OutputAfter
 pub mod BytesWritten
+pub mod Gives
