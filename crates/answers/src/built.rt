@@ -1,5 +1,4 @@
 // The table for a limit, from one entry for each subscription, written into a lent output.
-use crate::subscribed::numbered;
 use building::build;
 use meaning::Built;
 use meaning::MOST_ENTRIES;
@@ -9,6 +8,7 @@ use shapes::Entry;
 use shapes::Table;
 use shapes::no_steps;
 use subscriptions::Subscriptions;
+use subscriptions::numbered;
 use subscriptions::subscriptions_in;
 use writing::table_length;
 use writing::write_table;

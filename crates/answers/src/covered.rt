@@ -1,8 +1,8 @@
 // Does one subscription cover another?
-use crate::subscribed::numbered;
 use covering::covers;
 use meaning::Asked;
 use meaning::NOT_THERE;
+use subscriptions::numbered;
 use subscriptions::subscriptions_in;
 ghost use mathlib.Core.Path.{_≡_};
 ghost use Rattle.reading.specs.SheetPlaces.{sheetAt};

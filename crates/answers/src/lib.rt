@@ -1,5 +1,4 @@
 // The calls that work on a sheet's own patterns: does one cover another, the merge of two, the table for a limit.
-mod subscribed; // subscribed.rt: the pattern of a subscription
 mod covered; // covered.rt: does one cover another
 mod merged; // merged.rt: the merge of two, written
 pub mod built; // built.rt: the table for a limit, written

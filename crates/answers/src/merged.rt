@@ -1,10 +1,10 @@
 // The merge of two subscriptions, written into a lent output.
-use crate::subscribed::numbered;
 use meaning::Merged;
 use meaning::NO_ROOM;
 use meaning::NOT_THERE;
 use merging::merge;
 use offering::Marked;
+use subscriptions::numbered;
 use subscriptions::subscriptions_in;
 use writing::pattern_length;
 use writing::write_pattern;

@@ -9,9 +9,12 @@ use shapes::no_steps;
 ghost use mathlib.Core.Path.{_≡_};
 ghost use Prim.Native.Nat.{_+_, _*_, _^_, _≤_, _<_};
 ghost use lib.ListN.{length};
-ghost use Rattle.reading.specs.SheetPlaces.{stepAtPlace, stepsAt, afterPattern};
-ghost use Rattle.subscriptions.specs.Taken.{patternAt, patternPlaces, subscriptionsOf};
 ghost use Rattle.meaning.specs.Numbers.{mostPatterns, mostSteps};
+ghost use Rattle.meaning.specs.Calls.{subscription};
+ghost use Rattle.shapes.specs.Shapes.{patternOf, WellFormed};
+ghost use Rattle.reading.specs.SheetPlaces.{stepAtPlace, stepsAt, afterPattern, sheetAt};
+ghost use Rattle.subscriptions.specs.Taken.{patternAt, patternPlaces, subscriptionsOf};
+ghost use Rattle.subscriptions.specs.Subscribed.{SubscriptionsStand};
 
 // How many subscriptions a sheet has, and the place of each; behind those, the places go on in the same way.
 pub struct Subscriptions {
@@ -109,4 +112,13 @@ pub fn subscriptions_in(s: &[u8]) -> Subscriptions
         return Subscriptions { count: n, places };
     }
     Subscriptions { count: 0, places }
+}
+
+// The pattern of subscription i.
+pub fn numbered(s: &[u8], v: Subscriptions, i: usize) -> Pattern
+    requires { ⌜ SubscriptionsStand (now s) v × (i < v .count) ⌝ }
+    ensures { λ r. ⌜ (patternOf r ≡ subscription (sheetAt (now (s .entry))) i) × WellFormed r ⌝ }
+{
+    let x = v.places[i];
+    pattern_at(s, x)
 }

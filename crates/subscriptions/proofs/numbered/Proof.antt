@@ -1,10 +1,10 @@
--- `answers::subscribed::numbered` meets its contract: what stands at the place of a subscription is its pattern.
+-- `subscriptions::numbered` meets its contract: what stands at the place of a subscription is its pattern.
 use mathlib.Core.Path.{_∙_, ap}
 use Rattle.meaning.specs.Calls.{subscription}
 use Rattle.shapes.specs.Shapes.{patternOf}
 use borrow.Author.Needs.{needs}
-use Rattle.answers.proofs.subscribed.numbered.Statement.{statement}
-use Rattle.answers.proofs.subscribed.numbered.Tie as tie
+use Rattle.subscriptions.proofs.numbered.Statement.{statement}
+use Rattle.subscriptions.proofs.numbered.Tie as tie
 
 returns : tie.Need-returns
 unfolding subscription
