@@ -1,0 +1,4 @@
+pub mod WritableSteps
+pub mod LineWritten
+pub mod OnlyPattern
+pub mod Says
