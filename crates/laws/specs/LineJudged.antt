@@ -22,12 +22,12 @@ use Rattle.laws.specs.LinePlace.{line-front, fault-place, fault-only}
 
 module _ (s : List ℕ) where
   -- a place up to it stays
-  stays-early : (i : ℕ) → i ≤ longestLine → within s (offAt i) ≡ offAt i
+  pub stays-early : (i : ℕ) → i ≤ longestLine → within s (offAt i) ≡ offAt i
   unfolding within pick
   stays-early i h = rw (le-leb i longestLine h)
 
   -- a place from it on is put there
-  put-late : (i : ℕ) → longestLine ≤ i → within s (offAt i) ≡ offAt longestLine
+  pub put-late : (i : ℕ) → longestLine ≤ i → within s (offAt i) ≡ offAt longestLine
   unfolding within pick
   put-late i h = go (leb i longestLine) refl
     where
@@ -36,12 +36,12 @@ module _ (s : List ℕ) where
       go false e = refl
 
   -- the steps of a short line stay
-  stays-short : (ds : List Drawn) → length s ≤ longestLine → within s (draws ds) ≡ draws ds
+  pub stays-short : (ds : List Drawn) → length s ≤ longestLine → within s (draws ds) ≡ draws ds
   unfolding within pick
   stays-short ds h = rw (le-leb (length s) longestLine h)
 
   -- a longer one is off there
-  put-long : (ds : List Drawn) → longestLine < length s → within s (draws ds) ≡ offAt longestLine
+  pub put-long : (ds : List Drawn) → longestLine < length s → within s (draws ds) ≡ offAt longestLine
   unfolding within pick
   put-long ds h = rw (lt-leb (length s) longestLine h)
 

@@ -1,0 +1,11 @@
+pub mod Turns
+pub mod Fitting
+pub mod Names
+pub mod Courses
+pub mod Ends
+pub mod Found
+pub mod Kept
+pub mod Reached
+pub mod NearRoots
+pub mod Said
+pub mod Limit
