@@ -23,3 +23,4 @@ pub mod Sharp
 pub mod Printing
 pub mod RoseBench
 pub mod Examples
+pub mod LineExamples
