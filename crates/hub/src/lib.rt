@@ -3,13 +3,16 @@ use documents::document_number;
 use fairness::table_number;
 use meaning::Asked;
 use meaning::Built;
+use meaning::Lined;
 use meaning::Merged;
+use meaning::Output;
 use meaning::Routed;
 use meaning::Tabled;
 use reading::sheet_number;
 use routing::subscription_matches;
-ghost use Rattle.meaning.specs.Given.{askedGiven, mergedGiven, builtGiven, routedGiven, tabledGiven};
+ghost use Rattle.meaning.specs.Given.{askedGiven, mergedGiven, builtGiven, linedGiven, outputGiven, routedGiven, tabledGiven};
 ghost use Rattle.meaning.specs.Promises.{SheetCheckGives, DocumentCheckGives, TableCheckGives, MatchesGives, CoversGives, MergeGives, BuildGives};
+ghost use Rattle.meaning.specs.Promises.{ReadLineGives, WritePatternGives, WriteSubscriptionGives};
 ghost use Rattle.meaning.specs.Promises.{PlainRouteGives, TableRouteGives, WantedGives, ShedsGives, LowestShedGives, LabelNumberGives, LabelBytesGives};
 
 // The number of a sheet: 0 where it is sound.
@@ -59,6 +62,27 @@ pub fn build(s: &[u8], limit: u16, out: &mut [u8]) -> Built
     ensures { λ r. ⌜ BuildGives (now (s .entry)) limit (now (out .entry)) (builtGiven r) (now (out .exit)) ⌝ }
 {
     answers::build(s, limit, out)
+}
+
+// A line of the notation, read with a sheet's labels: a step count and the steps, written from the start of the output.
+pub fn read_line(s: &[u8], line: &[u8], out: &mut [u8]) -> Lined
+    ensures { λ r. ⌜ ReadLineGives (now (s .entry)) (now (line .entry)) (now (out .entry)) (linedGiven r) (now (out .exit)) ⌝ }
+{
+    lines::read_line(s, line, out)
+}
+
+// A pattern's bytes as a line, written from the start of the output.
+pub fn write_pattern(s: &[u8], p: &[u8], out: &mut [u8]) -> Output
+    ensures { λ r. ⌜ WritePatternGives (now (s .entry)) (now (p .entry)) (now (out .entry)) (outputGiven r) (now (out .exit)) ⌝ }
+{
+    spelling::write_pattern(s, p, out)
+}
+
+// A subscription as a line, written from the start of the output.
+pub fn write_subscription(s: &[u8], i: u64, out: &mut [u8]) -> Output
+    ensures { λ r. ⌜ WriteSubscriptionGives (now (s .entry)) i (now (out .entry)) (outputGiven r) (now (out .exit)) ⌝ }
+{
+    spelling::write_subscription(s, i, out)
 }
 
 // The plain route: which subscriptions a document is delivered to.

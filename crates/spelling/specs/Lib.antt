@@ -1,4 +1,4 @@
-pub mod WritableSteps
-pub mod LineWritten
+pub mod StepsWritable
+pub mod PutLine
 pub mod OnlyPattern
-pub mod Says
+pub mod TextSays

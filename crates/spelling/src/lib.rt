@@ -19,7 +19,7 @@ ghost use Rattle.reading.specs.SheetPlaces.{sheetAt};
 ghost use Rattle.reading.specs.SheetJudged.{SheetStands};
 ghost use Rattle.writing.specs.Gives.{Gives};
 ghost use Rattle.spelling.specs.OnlyPattern.{onlyPlace};
-ghost use Rattle.spelling.specs.Says.{patternSays, subscriptionSays};
+ghost use Rattle.spelling.specs.TextSays.{patternSays, subscriptionSays};
 
 // Where a pattern ends that is all of the bytes, or its first fault, with so many labels.
 fn only_pattern(p: &[u8], known: usize) -> Cur

@@ -4,7 +4,7 @@ use borrow.Author.Needs.{needs}
 use Rattle.meaning.specs.LineCalls.{outputAnswer}
 use Rattle.writing.specs.Gives.{gives-refusal, gives-same}
 use Rattle.spelling.specs.OnlyPattern.{only-taken}
-use Rattle.spelling.specs.Says.{bytes-said, bytes-refused}
+use Rattle.spelling.specs.TextSays.{bytes-said, bytes-refused}
 use Rattle.spelling.proofs.write_given.Statement.{statement}
 use Rattle.spelling.proofs.write_given.Tie as tie
 

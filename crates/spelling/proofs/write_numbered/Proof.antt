@@ -4,7 +4,7 @@ use borrow.Author.Needs.{needs}
 use Rattle.meaning.specs.LineCalls.{outputAnswer}
 use Rattle.subscriptions.specs.Subscribed.{subscriptions-stand}
 use Rattle.writing.specs.Gives.{gives-refusal, gives-same}
-use Rattle.spelling.specs.Says.{number-there, number-not-there}
+use Rattle.spelling.specs.TextSays.{number-there, number-not-there}
 use Rattle.spelling.proofs.write_numbered.Statement.{statement}
 use Rattle.spelling.proofs.write_numbered.Tie as tie
 

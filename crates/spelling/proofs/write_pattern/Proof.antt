@@ -4,7 +4,7 @@ use borrow.Author.Needs.{needs}
 use Rattle.meaning.specs.LineCalls.{outputAnswer}
 use Rattle.reading.specs.SheetJudged.{sheet-stands}
 use Rattle.writing.specs.Gives.{gives-refusal, gives-same}
-use Rattle.spelling.specs.Says.{pattern-said, pattern-refused}
+use Rattle.spelling.specs.TextSays.{pattern-said, pattern-refused}
 use Rattle.spelling.proofs.write_pattern.Statement.{statement}
 use Rattle.spelling.proofs.write_pattern.Tie as tie
 

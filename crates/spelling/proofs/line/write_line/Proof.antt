@@ -2,7 +2,7 @@
 use mathlib.Core.Path.{sym}
 use borrow.Author.Needs.{needs}
 use lib.Seq.{length-take-le}
-use Rattle.spelling.specs.LineWritten.{line-put, line-refused, line-no-room, line-written}
+use Rattle.spelling.specs.PutLine.{line-put, line-refused, line-no-room, line-written}
 use Rattle.spelling.proofs.line.write_line.Statement.{statement}
 use Rattle.spelling.proofs.line.write_line.Tie as tie
 

@@ -23,7 +23,7 @@ use Rattle.shapes.specs.declared.Pattern.{Pattern}
 use Rattle.reading.specs.SheetPlaces.{sheetAt}
 use Rattle.reading.specs.SheetJudged.{SheetStands}
 use Rattle.texts.specs.PutText.{written, put, put-whole, same-room}
-use Rattle.texts.specs.StepTexts.{labelsIn}
+use Rattle.labels.specs.LabelPlaces.{labelsIn}
 use Rattle.writing.specs.OutputAfter.{writtenOver, not-written}
 use Rattle.writing.specs.Gives.{Gives, gives-refusal, gives-same, gives-written, gives-no-room}
 
