@@ -328,6 +328,7 @@ pub fn answer_stream(mut stream: &[u8], out: &mut impl Write) -> io::Result<()> 
 mod tests {
     use super::*;
     use crate::draw::{ends, Draw};
+    use crate::question::LETTERS;
 
     #[test]
     fn a_stream_is_answered_question_by_question() {
@@ -345,7 +346,7 @@ mod tests {
 
     #[test]
     fn streams_end_as_they_should() {
-        for ending in ends(3, 20) {
+        for ending in ends(3, 20, &LETTERS) {
             let mut lines = Vec::new();
             answer_stream(&ending.stream, &mut lines).unwrap();
             let expected: String = ending.lines.iter().map(|l| format!("{l}\n")).collect();

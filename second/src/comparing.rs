@@ -1,8 +1,9 @@
 //! Comparing: batches of questions, each line beside this program's own.
 
+use crate::answers::Answer;
 use crate::asking::{run, Run};
 use crate::counts::{Counts, ENOUGH};
-use crate::draw::{ends, Draw};
+use crate::draw::{ends, Draw, Ending};
 use crate::notation::shown;
 use crate::question::Question;
 use crate::reading;
@@ -19,26 +20,20 @@ pub struct Comparison {
 }
 
 /// Asks and compares; true if there was no difference and nothing was missing.
-pub fn compare(seed: u64, count: usize, command: Vec<String>) -> bool {
-    let mut comparison = Comparison {
-        command,
-        counts: Counts::default(),
-        differences: 0,
-    };
-    // The empty stream first: it has no line, and shows whether the command starts at all.
-    comparison.report_run(&run(&comparison.command, Vec::new()), 0);
-    if comparison.differences > 0 {
+pub fn compare(seed: u64, count: usize, letters: &[u8], command: Vec<String>) -> bool {
+    let Some(mut comparison) = Comparison::begun(letters, command) else {
         return false;
-    }
-    let mut draw = Draw::new(seed);
+    };
+    let mut draw = Draw::of(letters, seed);
     let mut asked = 0;
     while asked < count && comparison.differences < MOST_DIFFERENCES {
         let batch = BATCH.min(count - asked);
-        comparison.compare_batch(&mut draw, asked, batch);
+        let drawn = (0..batch).map(|_| draw.next()).collect();
+        comparison.compare_batch(drawn, asked);
         asked += batch;
     }
     let streams = 10 + count / 250;
-    comparison.compare_ends(seed, streams);
+    comparison.compare_ends(&ends(seed, streams, letters));
     comparison.counts.print();
     println!();
     let missing = comparison.report_missing(asked);
@@ -50,12 +45,24 @@ pub fn compare(seed: u64, count: usize, command: Vec<String>) -> bool {
 }
 
 impl Comparison {
-    fn compare_batch(&mut self, draw: &mut Draw, before: usize, count: usize) {
+    /// None if the command doesn't run.
+    fn begun(letters: &[u8], command: Vec<String>) -> Option<Comparison> {
+        let mut comparison = Comparison {
+            command,
+            counts: Counts::new(letters),
+            differences: 0,
+        };
+        // The empty stream has no line, and shows whether the command starts at all.
+        comparison.report_run(&run(&comparison.command, Vec::new()), 0);
+        (comparison.differences == 0).then_some(comparison)
+    }
+
+    fn compare_batch(&mut self, batch: Vec<(Question, Answer)>, before: usize) {
+        let count = batch.len();
         let mut questions = Vec::new();
         let mut expected = Vec::new();
         let mut stream = Vec::new();
-        for _ in 0..count {
-            let (question, answer) = draw.next();
+        for (question, answer) in batch {
             self.counts.add(question.letter, answer.outcome);
             stream.extend(question.bytes());
             expected.push(answer.line);
@@ -130,8 +137,8 @@ impl Comparison {
         }
     }
 
-    fn compare_ends(&mut self, seed: u64, count: usize) {
-        for ending in ends(seed, count) {
+    fn compare_ends(&mut self, endings: &[Ending]) {
+        for ending in endings {
             if self.differences >= MOST_DIFFERENCES {
                 return;
             }

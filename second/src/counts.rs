@@ -3,18 +3,24 @@
 use crate::answers::{kinds_of, Outcome};
 use crate::draw::aims_of;
 use crate::numbers::{refusals_of, Judged, Refusal};
-use crate::question::LETTERS;
 use std::collections::BTreeMap;
 
 /// From so many questions on, everything that can come up must have.
 pub const ENOUGH: usize = 3_000;
 
-#[derive(Default)]
 pub struct Counts {
+    letters: Vec<u8>,
     of: BTreeMap<(u8, Outcome), usize>,
 }
 
 impl Counts {
+    pub fn new(letters: &[u8]) -> Counts {
+        Counts {
+            letters: letters.to_vec(),
+            of: BTreeMap::new(),
+        }
+    }
+
     pub fn add(&mut self, letter: u8, outcome: Outcome) {
         *self.of.entry((letter, outcome)).or_default() += 1;
     }
@@ -33,7 +39,7 @@ impl Counts {
     /// Everything that can come up for a letter and didn't.
     pub fn missing(&self) -> Vec<String> {
         let mut missing = Vec::new();
-        for letter in LETTERS {
+        for &letter in &self.letters {
             let refusals = aims_of(letter).into_iter().map(Outcome::Refused);
             let kinds = kinds_of(letter).iter().map(|kind| Outcome::Done(kind));
             for outcome in refusals.chain(kinds) {
@@ -46,23 +52,23 @@ impl Counts {
     }
 
     pub fn print(&self) {
-        print_head("number given back");
+        self.print_head("number given back");
         for number in 0..=12 {
-            print_row(&number.to_string(), |letter| self.by_number(letter, number));
+            self.print_row(&number.to_string(), |letter| self.by_number(letter, number));
         }
         println!();
-        print_head("refused in the");
+        self.print_head("refused in the");
         use Judged::*;
         for judged in [Sheet, Table, Document, Number, Room] {
             for &number in refusals_of(judged) {
                 let refusal = Refusal { judged, number };
                 let name = format!("{judged:?} {number}").to_lowercase();
-                print_row(&name, |letter| self.by_refusal(letter, refusal));
+                self.print_row(&name, |letter| self.by_refusal(letter, refusal));
             }
         }
         println!();
         println!("done, by kind of answer");
-        for letter in LETTERS {
+        for &letter in &self.letters {
             for kind in kinds_of(letter) {
                 let count = self.count(letter, Outcome::Done(kind));
                 println!("  {} {kind:24}{count:6}", letter as char);
@@ -90,24 +96,28 @@ impl Counts {
         let can = aims_of(letter).contains(&refusal);
         can.then(|| self.count(letter, Outcome::Refused(refusal)))
     }
-}
 
-fn print_head(name: &str) {
-    print!("{name:18}");
-    for letter in LETTERS {
-        print!("{:>6}", letter as char);
-    }
-    println!();
-}
-
-/// A point stands where nothing can come up.
-fn print_row(name: &str, count: impl Fn(u8) -> Option<usize>) {
-    print!("  {name:16}");
-    for letter in LETTERS {
-        match count(letter) {
-            Some(count) => print!("{count:6}"),
-            None => print!("{:>6}", "."),
+    fn print_head(&self, name: &str) {
+        print!("{name:18}");
+        for &letter in &self.letters {
+            print!("{:>6}", letter as char);
         }
+        println!();
     }
-    println!();
+
+    /// A point stands where nothing can come up; where nothing can for any of the letters, there is no row.
+    fn print_row(&self, name: &str, count: impl Fn(u8) -> Option<usize>) {
+        let counts: Vec<Option<usize>> = self.letters.iter().map(|&l| count(l)).collect();
+        if counts.iter().all(|count| count.is_none()) {
+            return;
+        }
+        print!("  {name:16}");
+        for count in counts {
+            match count {
+                Some(count) => print!("{count:6}"),
+                None => print!("{:>6}", "."),
+            }
+        }
+        println!();
+    }
 }

@@ -26,11 +26,12 @@ mod routing;
 mod satisfying;
 mod trees;
 
+use question::LETTERS;
 use std::io::{self, BufWriter, Read, Write};
 use std::process::ExitCode;
 
 const USAGE: &str = "\
-second SEED COUNT [-- COMMAND ARGS..]
+second SEED COUNT [--letters LETTERS] [-- COMMAND ARGS..]
     Draws COUNT questions from SEED, asks them of COMMAND, and compares every line with
     this program's own. COMMAND reads questions from its standard input to the end and
     writes lines to its standard output, as docs/ASK.md says. Without COMMAND it is `./run ask`,
@@ -38,6 +39,7 @@ second SEED COUNT [-- COMMAND ARGS..]
     or inside a question. A difference is printed, and its bytes go to difference-N.ask in
     the current folder. At the end, counts of what came up. The status is 1 if there was a
     difference, or if in 3000 questions or more some refusal or kind of answer never came up.
+    With LETTERS, such as PRW, only questions of these letters are drawn.
 
 second SEED COUNT --table [-- COMMAND ARGS..]
     Draws COUNT inputs of the program `table` from SEED, gives each to a run of COMMAND (without
@@ -45,10 +47,10 @@ second SEED COUNT --table [-- COMMAND ARGS..]
     that makes a difference goes to difference-N.table. The status is 1 if there was a
     difference, or if in 200 inputs or more a kind of table or some refusal never came up.
 
-second SEED COUNT --answers
+second SEED COUNT [--letters LETTERS] --answers
     Prints this program's own answers to the same questions, and asks nobody.
 
-second SEED COUNT --questions
+second SEED COUNT [--letters LETTERS] --questions
     Writes the bytes of the same questions to standard output.
 
 second --be-ask
@@ -69,25 +71,56 @@ second --help
 fn main() -> ExitCode {
     let args: Vec<String> = std::env::args().skip(1).collect();
     let args: Vec<&str> = args.iter().map(|arg| arg.as_str()).collect();
-    let done = match args[..] {
-        ["--help"] => print(USAGE),
-        ["--self-test"] => return self_test(),
-        ["--be-ask"] => be_ask(),
-        ["--be-table"] => be_table(),
-        [seed, count, "--answers"] => with_numbers(seed, count, print_answers),
-        [seed, count, "--questions"] => with_numbers(seed, count, print_questions),
-        [seed, count] => return compare(seed, count, comparing::compare, &["./run", "ask"]),
-        [seed, count, "--", ref command @ ..] if !command.is_empty() => {
-            return compare(seed, count, comparing::compare, command)
-        }
-        [seed, count, "--table"] => {
-            return compare(seed, count, comparing_prints::compare, &["./run", "table"])
-        }
-        [seed, count, "--table", "--", ref command @ ..] if !command.is_empty() => {
-            return compare(seed, count, comparing_prints::compare, command)
-        }
+    match args[..] {
+        ["--help"] => status(print(USAGE)),
+        ["--self-test"] => self_test(),
+        ["--be-ask"] => status(be_ask()),
+        ["--be-table"] => status(be_table()),
+        [seed, count, ref options @ ..] => match (seed.parse(), count.parse()) {
+            (Ok(seed), Ok(count)) => drawn(seed, count, options),
+            _ => usage_error(),
+        },
+        _ => usage_error(),
+    }
+}
+
+/// Whatever draws questions or inputs of `table`.
+fn drawn(seed: u64, count: usize, options: &[&str]) -> ExitCode {
+    let (table, letters, options) = match options {
+        ["--table", rest @ ..] => (true, &LETTERS[..], rest),
+        ["--letters", letters, rest @ ..] => (false, letters.as_bytes(), rest),
+        _ => (false, &LETTERS[..], options),
+    };
+    if letters.is_empty() || !letters.iter().all(|letter| LETTERS.contains(letter)) {
+        return usage_error();
+    }
+    let command: &[&str] = match options {
+        ["--answers"] if !table => return status(print_answers(seed, count, letters)),
+        ["--questions"] if !table => return status(print_questions(seed, count, letters)),
+        ["--", command @ ..] if !command.is_empty() => command,
+        [] if table => &["./run", "table"],
+        [] => &["./run", "ask"],
         _ => return usage_error(),
     };
+    let command = words(command);
+    agreed(match table {
+        true => comparing_prints::compare(seed, count, command),
+        false => comparing::compare(seed, count, letters, command),
+    })
+}
+
+fn words(command: &[&str]) -> Vec<String> {
+    command.iter().map(|word| word.to_string()).collect()
+}
+
+fn agreed(yes: bool) -> ExitCode {
+    match yes {
+        true => ExitCode::SUCCESS,
+        false => ExitCode::FAILURE,
+    }
+}
+
+fn status(done: io::Result<()>) -> ExitCode {
     match done {
         Ok(()) => ExitCode::SUCCESS,
         Err(error) => {
@@ -106,46 +139,18 @@ fn print(text: &str) -> io::Result<()> {
     io::stdout().write_all(text.as_bytes())
 }
 
-fn compare(
-    seed: &str,
-    count: &str,
-    with: fn(u64, usize, Vec<String>) -> bool,
-    command: &[&str],
-) -> ExitCode {
-    let (Ok(seed), Ok(count)) = (seed.parse(), count.parse()) else {
-        return usage_error();
-    };
-    let command = command.iter().map(|word| word.to_string()).collect();
-    if with(seed, count, command) {
-        ExitCode::SUCCESS
-    } else {
-        ExitCode::FAILURE
-    }
-}
-
-fn with_numbers(
-    seed: &str,
-    count: &str,
-    print: fn(u64, usize) -> io::Result<()>,
-) -> io::Result<()> {
-    match (seed.parse(), count.parse()) {
-        (Ok(seed), Ok(count)) => print(seed, count),
-        _ => Err(io::Error::other("SEED and COUNT are numbers")),
-    }
-}
-
-fn print_answers(seed: u64, count: usize) -> io::Result<()> {
+fn print_answers(seed: u64, count: usize, letters: &[u8]) -> io::Result<()> {
     let mut out = BufWriter::new(io::stdout().lock());
-    let mut draw = draw::Draw::new(seed);
+    let mut draw = draw::Draw::of(letters, seed);
     for _ in 0..count {
         writeln!(out, "{}", draw.next().1.line)?;
     }
     out.flush()
 }
 
-fn print_questions(seed: u64, count: usize) -> io::Result<()> {
+fn print_questions(seed: u64, count: usize, letters: &[u8]) -> io::Result<()> {
     let mut out = BufWriter::new(io::stdout().lock());
-    let mut draw = draw::Draw::new(seed);
+    let mut draw = draw::Draw::of(letters, seed);
     for _ in 0..count {
         out.write_all(&draw.next().0.bytes())?;
     }

@@ -1,6 +1,6 @@
 //! Streams that end in an unknown letter, inside a question, or before the first one.
 
-use super::questions::Draw;
+use super::turns::Draw;
 use crate::question::parts_of;
 use crate::random::Random;
 
@@ -10,10 +10,10 @@ pub struct Ending {
     pub lines: Vec<String>,
 }
 
-/// So many streams; the kinds take turns.
-pub fn ends(seed: u64, count: usize) -> Vec<Ending> {
+/// So many streams of these letters; the kinds take turns.
+pub fn ends(seed: u64, count: usize, letters: &[u8]) -> Vec<Ending> {
     let mut random = Random::new(!seed);
-    let mut draw = Draw::new(random.next());
+    let mut draw = Draw::of(letters, random.next());
     let mut list = Vec::new();
     for i in 0..count {
         let mut ending = Ending {

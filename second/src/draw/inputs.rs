@@ -1,8 +1,8 @@
 //! Inputs of the program `table`: two bytes of limit and a sheet, sound, damaged, cut short or too long.
 
 use super::fields::{joined, of_sheet};
-use super::questions::Draw;
 use super::sheets::{sheet, Size};
+use super::turns::Draw;
 use crate::random::Random;
 
 /// The longest sound input: a limit, 255 labels of 60 bytes and 64 patterns of 16 steps.

@@ -13,8 +13,9 @@ mod patterns;
 mod questions;
 mod sheets;
 mod tables;
+mod turns;
 
 pub use aims::aims_of;
-pub use ends::ends;
+pub use ends::{ends, Ending};
 pub use inputs::Inputs;
-pub use questions::Draw;
+pub use turns::Draw;

@@ -1,4 +1,4 @@
-//! Whole questions: about half are sound, the others damaged by aim or at random.
+//! Whole questions of a letter: about half are sound, the others damaged by aim or at random.
 
 use super::aims::{aim, aims_of, damage_after, scramble_or_clear};
 use super::drafts::{draft, enough_room, too_little_room, written};
@@ -18,33 +18,24 @@ const GREAT_EFFORT: f64 = 1_000_000.0;
 /// So often a kind of answer is tried for; the rarest comes once in some hundred.
 const MOST_TRIES: usize = 5_000;
 
-/// Draws one question after the other; the letters take turns.
-pub struct Draw {
+/// A source of questions, for one letter or several.
+pub struct Source {
     random: Random,
-    asked: usize,
     /// For each letter, how often a refusal was aimed at, and a kind of answer wanted.
     aimed: [usize; LETTERS.len()],
     wanted: [usize; LETTERS.len()],
 }
 
-impl Draw {
-    pub fn new(seed: u64) -> Draw {
-        Draw {
+impl Source {
+    pub fn new(seed: u64) -> Source {
+        Source {
             random: Random::new(seed),
-            asked: 0,
             aimed: [0; LETTERS.len()],
             wanted: [0; LETTERS.len()],
         }
     }
 
-    /// The next question, and this program's own answer to it.
-    pub fn next(&mut self) -> (Question, Answer) {
-        let letter = LETTERS[self.asked % LETTERS.len()];
-        self.asked += 1;
-        self.next_of(letter)
-    }
-
-    /// A question of this letter, whosever turn it is.
+    /// A question of this letter, and this program's own answer to it.
     pub fn next_of(&mut self, letter: u8) -> (Question, Answer) {
         let is_it = |&l: &u8| l == letter;
         let turn = LETTERS.iter().position(is_it).expect("a known letter");
