@@ -1,11 +1,13 @@
 //! The second program: it asks `ask` random questions, runs `table` on random inputs, and compares every line with its own.
 //!
-//! It is written from the customer's demands, the scope document and docs/ASK.md alone, and answers by brute force:
-//! it keeps no notes, works every body of a merge out again, and searches small layings
-//! through all maps of steps. How it is used stands in `USAGE` below (`second --help`).
+//! It is written from the customer's demands and requests, the scope document and docs/ASK.md alone, and answers by
+//! brute force: it keeps no notes, works every body of a merge out again, searches small layings through all maps of
+//! steps, and tries each byte of a line on the rules of the notation. How it is used stands in `USAGE` below
+//! (`second --help`).
 
 mod answers;
 mod asking;
+mod beginnings;
 mod building;
 mod comparing;
 mod comparing_prints;
@@ -14,7 +16,11 @@ mod covering;
 mod draw;
 mod examples;
 mod labels;
+#[cfg(test)]
+mod line_tests;
+mod lines;
 mod maps;
+mod meanings;
 mod merging;
 mod notation;
 mod numbers;

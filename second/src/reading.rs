@@ -1,8 +1,8 @@
-//! Reading bytes: sheet, table and document, judged from the front.
+//! Reading bytes: sheet, table, document and pattern, judged from the front.
 //! Each function gives what the bytes hold, or the first number that they draw.
 
 use crate::numbers::*;
-use crate::trees::{planted, Document, Entry, Node, Sheet, Step};
+use crate::trees::{planted, Document, Entry, Node, Pattern, Sheet, Step};
 
 struct Reader<'a> {
     bytes: &'a [u8],
@@ -69,6 +69,14 @@ pub fn table(bytes: &[u8], sheet: &Sheet) -> Result<Vec<Entry>, u8> {
     }
     reader.end()?;
     Ok(entries)
+}
+
+/// A pattern by itself: a step count and its steps, with the sheet's labels.
+pub fn pattern(bytes: &[u8], sheet: &Sheet) -> Result<Pattern, u8> {
+    let mut reader = Reader { bytes, at: 0 };
+    let pattern = planted(&steps(&mut reader, sheet.labels.len())?);
+    reader.end()?;
+    Ok(pattern)
 }
 
 pub fn document(bytes: &[u8], sheet: &Sheet) -> Result<Document, u8> {
@@ -221,6 +229,21 @@ mod tests {
         assert_eq!(with_parents([0, 1, 2, 0]), 0);
         assert_eq!(with_parents([0, 1, 2, 4]), 6);
         assert_eq!(with_parents([1, 1, 2, 3]), 6);
+    }
+
+    #[test]
+    fn a_pattern_is_judged_from_the_front() {
+        let one_label = sheet(&[1, 1, 7, 0]).unwrap();
+        let number = |bytes: &[u8]| pattern(bytes, &one_label).err().unwrap_or(0);
+        assert_eq!(number(&[]), 1);
+        assert_eq!(number(&[0]), 0);
+        assert_eq!(number(&[0, 0]), 2);
+        assert_eq!(number(&[17]), 5);
+        assert_eq!(number(&[2, 0, 0, 1, 2]), 6);
+        assert_eq!(number(&[2, 0, 0, 1, 0, 2]), 7);
+        assert_eq!(number(&[2, 0, 0, 1, 0, 0]), 9);
+        assert_eq!(number(&[1, 0, 0, 2, 0]), 8);
+        assert_eq!(number(&[1, 0, 0, 1, 0]), 2);
     }
 
     #[test]

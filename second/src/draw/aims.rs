@@ -51,6 +51,8 @@ pub fn aim(random: &mut Random, question: &mut Question, draft: &Draft, aim: Ref
             return true;
         }
         Judged::Room => return true,
+        // No letter has lines yet.
+        _ => return false,
     };
     let around = Around { taken, highest };
     let done = spoil(random, &mut fields, aim.number, &around);

@@ -1,6 +1,7 @@
 //! Drawing random questions: sound ones, damaged ones, and streams that end in a question. Inputs of `table` as well.
 
 mod aims;
+mod all_lines;
 mod damage;
 mod documents;
 mod drafts;
@@ -16,6 +17,7 @@ mod tables;
 mod turns;
 
 pub use aims::aims_of;
+pub use all_lines::all_lines;
 pub use ends::{ends, Ending};
 pub use inputs::Inputs;
 pub use turns::Draw;
