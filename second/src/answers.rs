@@ -3,9 +3,11 @@
 use crate::building::build;
 use crate::covering::covers;
 use crate::labels::label;
+use crate::line_answers::{self, READ_KINDS, WRITTEN_KINDS};
+use crate::lines::not_a_line;
 use crate::maps::{covers_checked, satisfies_checked};
 use crate::merging::{merge, Rule};
-use crate::numbers::{Judged, Refusal, ASKED, ROOM, UNFAIR};
+use crate::numbers::{Judged, Refusal, ASKED, NOT_A_LINE, ROOM, UNFAIR};
 use crate::question::{hex, next_question, Next, Question};
 use crate::reading;
 use crate::routing::{fair, plain_route, table_route, wanted, Found};
@@ -37,7 +39,7 @@ pub enum Outcome {
 }
 
 /// The values that follow a 0, each after a space, and the kind of answer.
-struct Values(String, &'static str);
+pub struct Values(pub String, pub &'static str);
 
 pub fn answer(question: &Question) -> Answer {
     let result = match question.letter {
@@ -52,6 +54,9 @@ pub fn answer(question: &Question) -> Answer {
         b'R' => by_table(question),
         b'W' => is_wanted(question),
         b'L' => label_bytes(question),
+        b'N' => line_answers::read_line(question),
+        b'V' => line_answers::write_pattern(question),
+        b'U' => line_answers::write_subscription(question),
         letter => panic!("no such letter: {letter}"),
     };
     match result {
@@ -60,36 +65,50 @@ pub fn answer(question: &Question) -> Answer {
             outcome: Outcome::Done(kind),
         },
         Err(refusal) => Answer {
-            line: format!("{}{}", refusal.number, zeros(question)),
+            line: format!("{}{}", refusal.number, zeros(question, refusal)),
             outcome: Outcome::Refused(refusal),
         },
     }
 }
 
-/// What follows the number of a refused call.
-fn zeros(question: &Question) -> String {
+/// What follows the number of a refused call; only with 13 is it more than zeros.
+fn zeros(question: &Question, refusal: Refusal) -> String {
     match question.letter {
         b'S' | b'D' | b'T' => String::new(),
         b'M' | b'C' | b'W' => " 0".to_string(),
         b'G' | b'B' => format!(" 0 0 {}", lent_bytes(&[], question.room)),
         b'P' => format!(" {:016x} 0 64", 0),
         b'R' => format!(" {:016x} 0", 0),
+        b'N' => {
+            let place = place_with(question, refusal);
+            format!(" {place} 0 {}", lent_bytes(&[], question.room))
+        }
+        b'V' | b'U' => format!(" 0 {}", lent_bytes(&[], question.room)),
         _ => " -".to_string(),
     }
 }
 
+/// The place that comes with a refusal of a line.
+fn place_with(question: &Question, refusal: Refusal) -> usize {
+    if refusal.number != NOT_A_LINE {
+        return 0;
+    }
+    let (_, place) = not_a_line(&question.line).expect("no line");
+    place
+}
+
 /// All lent bytes after the call: those written, and those behind as found.
-fn lent_bytes(written: &[u8], room: u16) -> String {
+pub fn lent_bytes(written: &[u8], room: u16) -> String {
     let mut lent = vec![AS_FOUND; room as usize];
     lent[..written.len()].copy_from_slice(written);
     hex(&lent)
 }
 
-fn refusal(judged: Judged, number: u8) -> Refusal {
+pub fn refusal(judged: Judged, number: u8) -> Refusal {
     Refusal { judged, number }
 }
 
-fn read_sheet(question: &Question) -> Result<Sheet, Refusal> {
+pub fn read_sheet(question: &Question) -> Result<Sheet, Refusal> {
     reading::sheet(&question.sheet).map_err(|number| refusal(Judged::Sheet, number))
 }
 
@@ -116,14 +135,14 @@ fn read_all(question: &Question) -> Result<(Sheet, Vec<Entry>, Document), Refusa
     Ok((sheet, entries, document))
 }
 
-fn subscription(sheet: &Sheet, number: u64) -> Result<&Pattern, Refusal> {
+pub fn subscription(sheet: &Sheet, number: u64) -> Result<&Pattern, Refusal> {
     if number >= sheet.patterns.len() as u64 {
         return Err(refusal(Judged::Number, ASKED));
     }
     Ok(&sheet.patterns[number as usize])
 }
 
-fn check_room(written: &[u8], room: u16) -> Result<(), Refusal> {
+pub fn check_room(written: &[u8], room: u16) -> Result<(), Refusal> {
     if written.len() > room as usize {
         return Err(refusal(Judged::Room, ROOM));
     }
@@ -308,6 +327,8 @@ pub fn kinds_of(letter: u8) -> &'static [&'static str] {
             "yes, after one in vain",
             LAST_ALONE,
         ],
+        b'N' => &READ_KINDS,
+        b'V' | b'U' => &WRITTEN_KINDS,
         _ => &["of the sheet", "of the document"],
     }
 }
@@ -363,6 +384,15 @@ mod tests {
         let mut lines = Vec::new();
         answer_stream(&stream, &mut lines).unwrap();
         let expected = "1 0 0 a5a5\n1 0000000000000000 0 64\n1 0\n1 -\nunknown\n";
+        assert_eq!(String::from_utf8(lines).unwrap(), expected);
+    }
+
+    #[test]
+    fn a_refused_line_shows_its_place() {
+        let stream = b"N\x02\0\0\0\x02\0[.\x01\0N\x01\0\0\x01\0a\0\0V\x02\0\0\0\x01\0\x11\x01\0";
+        let mut lines = Vec::new();
+        answer_stream(stream, &mut lines).unwrap();
+        let expected = "13 2 0 a5\n1 0 0 -\n5 0 a5\n";
         assert_eq!(String::from_utf8(lines).unwrap(), expected);
     }
 }

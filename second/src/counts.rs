@@ -2,7 +2,7 @@
 
 use crate::answers::{kinds_of, Outcome};
 use crate::draw::aims_of;
-use crate::numbers::{refusals_of, Judged, Refusal};
+use crate::numbers::{refusals_of, Refusal, ALL_JUDGED};
 use std::collections::BTreeMap;
 
 /// From so many questions on, everything that can come up must have.
@@ -29,7 +29,7 @@ impl Counts {
         *self.of.get(&(letter, outcome)).unwrap_or(&0)
     }
 
-    fn done(&self, letter: u8) -> usize {
+    pub fn done(&self, letter: u8) -> usize {
         let kinds = kinds_of(letter).iter();
         kinds
             .map(|kind| self.count(letter, Outcome::Done(kind)))
@@ -53,13 +53,12 @@ impl Counts {
 
     pub fn print(&self) {
         self.print_head("number given back");
-        for number in 0..=12 {
+        for number in 0..=15 {
             self.print_row(&number.to_string(), |letter| self.by_number(letter, number));
         }
         println!();
         self.print_head("refused in the");
-        use Judged::*;
-        for judged in [Sheet, Table, Document, Number, Room] {
+        for judged in ALL_JUDGED {
             for &number in refusals_of(judged) {
                 let refusal = Refusal { judged, number };
                 let name = format!("{judged:?} {number}").to_lowercase();

@@ -1,17 +1,19 @@
-//! The rose bench examples of document 01 and the readings that docs/DECISIONS.md takes, asked as questions.
+//! The rose bench examples of document 01 and the readings that docs/DECISIONS.md takes, asked as questions. Those about
+//! lines stand in `line_examples`.
 
 use crate::answers::answer;
+use crate::line_examples;
 use crate::notation::pattern;
 use crate::printing::printed;
 use crate::question::Question;
 use crate::trees::{written, written_table, Entry};
 
-const ROSE_LABELS: [&str; 3] = ["CD", "SONY", "Bach"];
-const ROSE_PATTERNS: [&str; 3] = ["/CD[/SONY][/*/Bach]", "//CD/Bach", "/CD"];
+pub const ROSE_LABELS: [&str; 3] = ["CD", "SONY", "Bach"];
+pub const ROSE_PATTERNS: [&str; 3] = ["/CD[/SONY][/*/Bach]", "//CD/Bach", "/CD"];
 /// The tables of R for limits 3 and 2, as entries (members, pattern).
 const LIMIT_3: [(u64, &str); 2] = [(2, "//CD/Bach"), (5, "/CD")];
 const LIMIT_2: [(u64, &str); 1] = [(7, "//CD")];
-const ABC: [&str; 3] = ["a", "b", "c"];
+pub const ABC: [&str; 3] = ["a", "b", "c"];
 
 /// A question of a name, the line it should have, and the line it has.
 pub struct Example {
@@ -33,10 +35,11 @@ pub fn all() -> Vec<Example> {
     limit_examples(&mut list);
     byte_examples(&mut list);
     misreadings(&mut list);
+    line_examples::add_all(&mut list);
     list
 }
 
-fn add(list: &mut Vec<Example>, name: &str, question: Question, expected: &str) {
+pub fn add(list: &mut Vec<Example>, name: &str, question: Question, expected: &str) {
     list.push(Example {
         name: name.to_string(),
         expected: expected.to_string(),
@@ -44,7 +47,7 @@ fn add(list: &mut Vec<Example>, name: &str, question: Question, expected: &str) 
     });
 }
 
-fn question(letter: u8, sheet: &[u8]) -> Question {
+pub fn question(letter: u8, sheet: &[u8]) -> Question {
     Question {
         letter,
         sheet: sheet.to_vec(),
@@ -52,7 +55,7 @@ fn question(letter: u8, sheet: &[u8]) -> Question {
     }
 }
 
-fn label_section(labels: &[&[u8]]) -> Vec<u8> {
+pub fn label_section(labels: &[&[u8]]) -> Vec<u8> {
     let mut bytes = vec![labels.len() as u8];
     for label in labels {
         bytes.push(label.len() as u8);
@@ -61,7 +64,7 @@ fn label_section(labels: &[&[u8]]) -> Vec<u8> {
     bytes
 }
 
-fn sheet_of(labels: &[&str], patterns: &[&str]) -> Vec<u8> {
+pub fn sheet_of(labels: &[&str], patterns: &[&str]) -> Vec<u8> {
     let label_bytes: Vec<&[u8]> = labels.iter().map(|l| l.as_bytes()).collect();
     let mut bytes = label_section(&label_bytes);
     bytes.push(patterns.len() as u8);

@@ -16,6 +16,8 @@ mod covering;
 mod draw;
 mod examples;
 mod labels;
+mod line_answers;
+mod line_examples;
 #[cfg(test)]
 mod line_tests;
 mod lines;
@@ -45,7 +47,7 @@ second SEED COUNT [--letters LETTERS] [-- COMMAND ARGS..]
     or inside a question. A difference is printed, and its bytes go to difference-N.ask in
     the current folder. At the end, counts of what came up. The status is 1 if there was a
     difference, or if in 3000 questions or more some refusal or kind of answer never came up.
-    With LETTERS, such as PRW, only questions of these letters are drawn.
+    With LETTERS, such as NVU, only questions of these letters are drawn.
 
 second SEED COUNT --table [-- COMMAND ARGS..]
     Draws COUNT inputs of the program `table` from SEED, gives each to a run of COMMAND (without
@@ -68,7 +70,8 @@ second --be-table
 
 second --self-test
     Checks this program's own answers against the examples of document 01, the readings of
-    docs/DECISIONS.md and what easy misreadings would answer.
+    docs/DECISIONS.md, lines that are read, refused or written, and what easy misreadings
+    would answer.
 
 second --help
     Prints this.

@@ -3,13 +3,15 @@
 use std::fmt::Write;
 
 /// The letters, in the order of docs/ASK.md.
-pub const LETTERS: [u8; 11] = *b"SDTMCGBPRWL";
+pub const LETTERS: [u8; 14] = *b"SDTMCGBPRWLNVU";
 
 #[derive(Clone, Copy, PartialEq, Eq, Debug)]
 pub enum Part {
     Sheet,
     Table,
     Document,
+    Line,
+    Pattern,
     Number,
     Limit,
     Room,
@@ -29,6 +31,9 @@ pub fn parts_of(letter: u8) -> Option<&'static [Part]> {
         b'P' => &[Sheet, Document],
         b'R' | b'W' => &[Sheet, Table, Document],
         b'L' => &[Sheet, Document, Number],
+        b'N' => &[Sheet, Line, Room],
+        b'V' => &[Sheet, Pattern, Room],
+        b'U' => &[Sheet, Number, Room],
         _ => return None,
     };
     Some(parts)
@@ -41,6 +46,8 @@ pub struct Question {
     pub sheet: Vec<u8>,
     pub table: Vec<u8>,
     pub document: Vec<u8>,
+    pub line: Vec<u8>,
+    pub pattern: Vec<u8>,
     pub numbers: Vec<u64>,
     pub limit: u16,
     pub room: u16,
@@ -64,6 +71,8 @@ impl Question {
                 Part::Sheet => add_bytes(&mut stream, &self.sheet),
                 Part::Table => add_bytes(&mut stream, &self.table),
                 Part::Document => add_bytes(&mut stream, &self.document),
+                Part::Line => add_bytes(&mut stream, &self.line),
+                Part::Pattern => add_bytes(&mut stream, &self.pattern),
                 Part::Number => stream.extend(numbers.next().unwrap().to_le_bytes()),
                 Part::Limit => stream.extend(self.limit.to_le_bytes()),
                 Part::Room => stream.extend(self.room.to_le_bytes()),
@@ -81,6 +90,9 @@ impl Question {
                 Part::Sheet => hex(&self.sheet),
                 Part::Table => hex(&self.table),
                 Part::Document => hex(&self.document),
+                // Lines are short, and easier to read as text.
+                Part::Line => format!("{} {}", self.line.len(), self.line.escape_ascii()),
+                Part::Pattern => hex(&self.pattern),
                 Part::Number => numbers.next().unwrap().to_string(),
                 Part::Limit => self.limit.to_string(),
                 Part::Room => self.room.to_string(),
@@ -139,6 +151,8 @@ fn read_part(stream: &mut &[u8], part: Part, question: &mut Question) -> Option<
         Part::Sheet => question.sheet = take_bytes(stream)?,
         Part::Table => question.table = take_bytes(stream)?,
         Part::Document => question.document = take_bytes(stream)?,
+        Part::Line => question.line = take_bytes(stream)?,
+        Part::Pattern => question.pattern = take_bytes(stream)?,
         Part::Number => {
             let bytes = take(stream, 8)?;
             let number = u64::from_le_bytes(bytes.try_into().unwrap());

@@ -1,8 +1,10 @@
 //! Aims: which refusals a letter can give, and how a question is brought to give one.
 
 use super::damage::{scramble, spoil, Around};
-use super::drafts::Draft;
-use super::fields::{joined, of_document, of_sheet, of_table};
+use super::drafts::{pattern_asked, Draft};
+use super::fields::{joined, of_document, of_pattern, of_sheet, of_table};
+use super::line_faults::{edit, line_for};
+use super::to_write::make_unwritable;
 use crate::numbers::{refusals_of, Judged, Refusal};
 use crate::question::{parts_of, Part, Question};
 use crate::random::Random;
@@ -10,17 +12,23 @@ use crate::random::Random;
 /// Every refusal that a letter can give.
 pub fn aims_of(letter: u8) -> Vec<Refusal> {
     let mut aims = Vec::new();
+    let writes_lines = matches!(letter, b'V' | b'U');
     for part in parts_of(letter).expect("a known letter") {
-        let judged = match part {
-            Part::Sheet => Judged::Sheet,
-            Part::Table => Judged::Table,
-            Part::Document => Judged::Document,
-            Part::Number => Judged::Number,
-            Part::Room => Judged::Room,
-            Part::Limit => continue,
+        use Judged::*;
+        let all: &[Judged] = match part {
+            Part::Sheet => &[Sheet],
+            Part::Table => &[Table],
+            Part::Document => &[Document],
+            Part::Line => &[Fault, Early, Late, Longer, Line],
+            Part::Pattern => &[Pattern],
+            Part::Number => &[Number],
+            Part::Room if writes_lines => &[Writing, Room],
+            Part::Room => &[Room],
+            Part::Limit => &[],
         };
-        for &number in refusals_of(judged) {
-            aims.push(Refusal { judged, number });
+        for &judged in all {
+            let numbers = refusals_of(judged).iter();
+            aims.extend(numbers.map(|&number| Refusal { judged, number }));
         }
     }
     // A letter with two numbers has their refusal once.
@@ -46,17 +54,39 @@ pub fn aim(random: &mut Random, question: &mut Question, draft: &Draft, aim: Ref
             let taken = &draft.sheet.labels[..];
             (fields, &mut question.document, taken, highest)
         }
+        Judged::Pattern => {
+            // Judged before its labels are.
+            if random.one_in(3) {
+                use_unwritable(random, question, draft);
+            }
+            let fields = of_pattern(&draft.pattern);
+            (fields, &mut question.pattern, &[][..], of_sheet_labels)
+        }
         Judged::Number => {
             ask_beyond(random, question, draft);
             return true;
         }
+        Judged::Writing => return use_unwritable(random, question, draft),
         Judged::Room => return true,
-        // No letter has lines yet.
-        _ => return false,
+        Judged::Fault | Judged::Early | Judged::Late | Judged::Longer | Judged::Line => {
+            question.line = line_for(random, &draft.sheet, aim);
+            return true;
+        }
     };
     let around = Around { taken, highest };
     let done = spoil(random, &mut fields, aim.number, &around);
     *part = joined(&fields);
+    done
+}
+
+/// The sheet gets a label that is not writable, and the pattern to be written uses it.
+fn use_unwritable(random: &mut Random, question: &mut Question, draft: &Draft) -> bool {
+    let mut sheet = draft.sheet.clone();
+    let Some(pattern) = pattern_asked(question, &sheet) else {
+        return false;
+    };
+    let done = make_unwritable(random, &mut sheet, &pattern);
+    question.sheet = joined(&of_sheet(&sheet));
     done
 }
 
@@ -95,6 +125,12 @@ pub fn damage_after(random: &mut Random, question: &mut Question, judged: Judged
     }
     if Judged::Document > judged && random.one_in(2) {
         scramble_or_clear(random, &mut question.document);
+    }
+    if question.has(Part::Pattern) && Judged::Pattern > judged && random.one_in(2) {
+        scramble_or_clear(random, &mut question.pattern);
+    }
+    if question.has(Part::Line) && Judged::Fault > judged && random.one_in(2) {
+        edit(random, &mut question.line);
     }
     if Judged::Number > judged && random.one_in(2) {
         for number in &mut question.numbers {

@@ -1,21 +1,27 @@
 //! Drafts: sound questions before they are written as bytes.
 
 use super::documents::document;
-use super::fields::{joined, of_document, of_sheet, of_table};
+use super::fields::{joined, of_document, of_pattern, of_sheet, of_table};
+use super::line_names::respell;
+use super::lines::sound_line;
 use super::sheets::{leave_one, sheet, Size};
 use super::tables::{any_limit, fair_table};
+use super::to_write::{longest_to_write, pattern_to_write};
 use crate::building::build;
+use crate::lines;
 use crate::merging::merge;
 use crate::question::{parts_of, Part, Question};
 use crate::random::Random;
 use crate::reading;
-use crate::trees::{size, written_table, Document, Entry, Sheet};
+use crate::trees::{size, written_table, Document, Entry, Pattern, Sheet};
 
 pub struct Draft {
     pub letter: u8,
     pub sheet: Sheet,
     pub table: Vec<Entry>,
     pub document: Document,
+    pub line: Vec<u8>,
+    pub pattern: Pattern,
     pub numbers: Vec<u64>,
     pub limit: u16,
 }
@@ -31,6 +37,8 @@ pub fn draft(random: &mut Random, letter: u8, size: Size) -> Draft {
             labels: Vec::new(),
             nodes: Vec::new(),
         },
+        line: Vec::new(),
+        pattern: Vec::new(),
         numbers: Vec::new(),
         limit: 0,
         sheet,
@@ -49,7 +57,32 @@ pub fn draft(random: &mut Random, letter: u8, size: Size) -> Draft {
         draft.limit = any_limit(random, &draft.sheet);
     }
     draft.numbers = numbers_in_range(random, &draft);
+    if matches!(letter, b'N' | b'V' | b'U') {
+        prepare_lines(random, &mut draft, size);
+    }
     draft
+}
+
+/// Labels worth having in lines, and what is to be read or written.
+fn prepare_lines(random: &mut Random, draft: &mut Draft, size: Size) {
+    // The labels of the largest sheet are needed as long as they are.
+    if size != Size::Full {
+        let unwritable_ones = if draft.letter == b'N' { 4 } else { 10 };
+        respell(random, &mut draft.sheet, unwritable_ones);
+    }
+    match draft.letter {
+        b'N' => draft.line = sound_line(random, &draft.sheet),
+        b'V' => draft.pattern = pattern_to_write(random, &draft.sheet),
+        _ => {
+            let long_ones = if size == Size::Full { 2 } else { 8 };
+            let long = longest_to_write(random, &draft.sheet);
+            let number = draft.numbers[0] as usize;
+            match draft.sheet.patterns.get_mut(number) {
+                Some(own) if random.one_in(long_ones) => *own = long,
+                _ => {}
+            }
+        }
+    }
 }
 
 /// The question that a draft stands for; a room is drawn later, when it is known what is written.
@@ -59,6 +92,8 @@ pub fn written(random: &mut Random, draft: &Draft) -> Question {
         sheet: joined(&of_sheet(&draft.sheet)),
         table: joined(&of_table(&draft.table)),
         document: joined(&of_document(&draft.document)),
+        line: draft.line.clone(),
+        pattern: joined(&of_pattern(&draft.pattern)),
         numbers: draft.numbers.clone(),
         limit: draft.limit,
         room: random.between(0, 12) as u16,
@@ -69,7 +104,7 @@ pub fn written(random: &mut Random, draft: &Draft) -> Question {
 fn numbers_in_range(random: &mut Random, draft: &Draft) -> Vec<u64> {
     let patterns = draft.sheet.patterns.len().max(1);
     match draft.letter {
-        b'M' => vec![random.below(patterns) as u64],
+        b'M' | b'U' => vec![random.below(patterns) as u64],
         b'C' | b'G' => two_subscriptions(random, patterns),
         b'L' => {
             let of_sheet = draft.sheet.labels.len();
@@ -111,7 +146,7 @@ pub fn too_little_room(random: &mut Random, question: &Question) -> u16 {
     random.pick(&[0, needed - 1, needed - 1, any]) as u16
 }
 
-/// How many bytes a merge or a build will write; 0 where it is refused before that.
+/// How many bytes the call will write; 0 where it is refused before that.
 fn bytes_to_write(question: &Question) -> usize {
     let Ok(sheet) = reading::sheet(&question.sheet) else {
         return 0;
@@ -125,6 +160,21 @@ fn bytes_to_write(question: &Question) -> usize {
                 _ => 0,
             }
         }
+        b'N' => {
+            let pattern = lines::read(&question.line, &sheet.labels);
+            pattern.map_or(0, |pattern| 1 + 3 * size(&pattern))
+        }
+        b'V' | b'U' => pattern_asked(question, &sheet)
+            .and_then(|pattern| lines::written(&pattern, &sheet.labels).ok())
+            .map_or(0, |line| line.len()),
         _ => 0,
+    }
+}
+
+/// The pattern that is to be written as a line.
+pub fn pattern_asked(question: &Question, sheet: &Sheet) -> Option<Pattern> {
+    match question.numbers[..] {
+        [] => reading::pattern(&question.pattern, sheet).ok(),
+        [number, ..] => sheet.patterns.get(usize::try_from(number).ok()?).cloned(),
     }
 }

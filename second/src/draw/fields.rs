@@ -71,6 +71,12 @@ pub fn of_document(document: &Document) -> Vec<Field> {
     fields
 }
 
+pub fn of_pattern(pattern: &[Branch]) -> Vec<Field> {
+    let mut fields = Vec::new();
+    add_pattern(&mut fields, pattern);
+    fields
+}
+
 fn add(fields: &mut Vec<Field>, kind: Kind, bytes: &[u8]) {
     let bytes = bytes.to_vec();
     fields.push(Field { kind, bytes });

@@ -1,4 +1,5 @@
-//! Drawing random questions: sound ones, damaged ones, and streams that end in a question. Inputs of `table` as well.
+//! Drawing random questions: sound ones, damaged ones, and streams that end in a question. Inputs of `table` as well, and
+//! all short lines.
 
 mod aims;
 mod all_lines;
@@ -10,10 +11,15 @@ mod ends;
 mod fields;
 mod inputs;
 mod label_names;
+mod line_faults;
+mod line_lengths;
+mod line_names;
+mod lines;
 mod patterns;
 mod questions;
 mod sheets;
 mod tables;
+mod to_write;
 mod turns;
 
 pub use aims::aims_of;

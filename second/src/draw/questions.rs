@@ -3,10 +3,12 @@
 use super::aims::{aim, aims_of, damage_after, scramble_or_clear};
 use super::drafts::{draft, enough_room, too_little_room, written};
 use super::effort;
+use super::line_faults::edit;
 use super::sheets::{size_for, Size};
 use super::tables::make_unfair;
 use crate::answers::{answer, kinds_of, Answer, Outcome};
 use crate::answers::{CLIPPED_ONLY_BELOW, CUTS_AMONG_SEVERAL, LAST_ALONE};
+use crate::line_answers::AS_LONG_AS_CAN_BE;
 use crate::numbers::{Judged, Refusal, UNFAIR};
 use crate::question::{Part, Question, LETTERS};
 use crate::random::Random;
@@ -63,12 +65,18 @@ impl Source {
         kinds[self.wanted[turn] % kinds.len()]
     }
 
-    /// The refusals take turns as well; those that are judged last come three times as often.
+    /// The refusals take turns as well; those that are judged last come three times as often, and faults in lines nine
+    /// times, since there are so many kinds of them.
     fn next_aim(&mut self, turn: usize) -> Refusal {
         let mut aims = aims_of(LETTERS[turn]);
-        let late = aims.clone().into_iter().filter(|aim| aim.number >= 10);
+        let is_late = |aim: &Refusal| aim.number >= 10 || aim.judged == Judged::Line;
+        let late = aims.clone().into_iter().filter(is_late);
         aims.extend(late.clone());
         aims.extend(late);
+        let of_lines = aims.clone().into_iter();
+        let faults = of_lines.filter(|aim| aim.judged == Judged::Fault);
+        aims.extend(faults.clone());
+        aims.extend(faults);
         self.aimed[turn] += 1;
         aims[self.aimed[turn] % aims.len()]
     }
@@ -96,6 +104,7 @@ impl Source {
             let size = match kind {
                 CUTS_AMONG_SEVERAL | CLIPPED_ONLY_BELOW => Size::Tangled,
                 LAST_ALONE => Size::Many,
+                AS_LONG_AS_CAN_BE => Size::Full,
                 _ => size_for(&mut self.random, letter),
             };
             let (question, answer) = self.sound(letter, size);
@@ -155,9 +164,13 @@ impl Source {
     }
 
     fn scramble_some_part(&mut self, question: &mut Question) {
+        if question.has(Part::Line) && !self.random.one_in(3) {
+            return edit(&mut self.random, &mut question.line);
+        }
         let (part, judged) = match self.random.below(3) {
             0 if question.has(Part::Table) => (&mut question.table, Judged::Table),
             1 if question.has(Part::Document) => (&mut question.document, Judged::Document),
+            0 | 1 if question.has(Part::Pattern) => (&mut question.pattern, Judged::Pattern),
             _ => (&mut question.sheet, Judged::Sheet),
         };
         scramble_or_clear(&mut self.random, part);

@@ -33,6 +33,9 @@ pub fn size_for(random: &mut Random, letter: u8) -> Size {
         b'C' | b'G' => [6, 25, 5, 15, 37, 3, 8, 1],
         b'B' => [6, 20, 30, 15, 8, 15, 5, 1],
         b'T' | b'P' | b'R' | b'W' => [8, 30, 20, 5, 12, 14, 9, 2],
+        // For lines: long labels, tall patterns.
+        b'N' => [10, 50, 5, 0, 5, 2, 10, 12],
+        b'V' | b'U' => [8, 35, 10, 5, 22, 4, 6, 10],
         _ => [10, 45, 10, 5, 12, 6, 10, 2],
     };
     let sizes = [
