@@ -1,9 +1,9 @@
 //! Comparing: batches of questions, each line beside this program's own.
 
-use crate::answers::Answer;
+use crate::answers::{answer, Answer};
 use crate::asking::{run, Run};
 use crate::counts::{Counts, ENOUGH};
-use crate::draw::{ends, Draw, Ending};
+use crate::draw::{all_lines, ends, reading_of, Draw, Ending};
 use crate::notation::shown;
 use crate::question::Question;
 use crate::reading;
@@ -42,6 +42,30 @@ pub fn compare(seed: u64, count: usize, letters: &[u8], command: Vec<String>) ->
         comparison.differences
     );
     comparison.differences == 0 && !missing
+}
+
+/// Asks every line of at most so many bytes (`all_lines`); true if there was no difference.
+pub fn compare_all_lines(most: usize, command: Vec<String>) -> bool {
+    let Some(mut comparison) = Comparison::begun(b"N", command) else {
+        return false;
+    };
+    let lines = all_lines(most);
+    for (i, batch) in lines.chunks(BATCH).enumerate() {
+        if comparison.differences < MOST_DIFFERENCES {
+            let questions = batch.iter().map(|line| reading_of(line));
+            let answered = questions.map(|question| {
+                let own = answer(&question);
+                (question, own)
+            });
+            comparison.compare_batch(answered.collect(), i * BATCH);
+        }
+    }
+    let (count, read) = (lines.len(), comparison.counts.done(b'N'));
+    println!(
+        "all {count} lines of at most {most} bytes, {read} of them read, {} differences",
+        comparison.differences
+    );
+    comparison.differences == 0
 }
 
 impl Comparison {

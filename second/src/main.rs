@@ -55,6 +55,11 @@ second SEED COUNT --table [-- COMMAND ARGS..]
     that makes a difference goes to difference-N.table. The status is 1 if there was a
     difference, or if in 200 inputs or more a kind of table or some refusal never came up.
 
+second --all-lines LENGTH [-- COMMAND ARGS..]
+    Asks every line of at most LENGTH bytes, each of them one of / * [ ] . a and a line feed,
+    and compares. There are 19608 of at most 5 bytes, 137257 of at most 6. The status is 1 if
+    there was a difference.
+
 second SEED COUNT [--letters LETTERS] --answers
     Prints this program's own answers to the same questions, and asks nobody.
 
@@ -85,6 +90,10 @@ fn main() -> ExitCode {
         ["--self-test"] => self_test(),
         ["--be-ask"] => status(be_ask()),
         ["--be-table"] => status(be_table()),
+        ["--all-lines", length, ref options @ ..] => match length.parse() {
+            Ok(length) => all_lines(length, options),
+            _ => usage_error(),
+        },
         [seed, count, ref options @ ..] => match (seed.parse(), count.parse()) {
             (Ok(seed), Ok(count)) => drawn(seed, count, options),
             _ => usage_error(),
@@ -116,6 +125,15 @@ fn drawn(seed: u64, count: usize, options: &[&str]) -> ExitCode {
         true => comparing_prints::compare(seed, count, command),
         false => comparing::compare(seed, count, letters, command),
     })
+}
+
+fn all_lines(length: usize, options: &[&str]) -> ExitCode {
+    let command: &[&str] = match options {
+        ["--", command @ ..] if !command.is_empty() => command,
+        [] => &["./run", "ask"],
+        _ => return usage_error(),
+    };
+    agreed(comparing::compare_all_lines(length, words(command)))
 }
 
 fn words(command: &[&str]) -> Vec<String> {

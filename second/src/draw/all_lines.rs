@@ -1,5 +1,7 @@
 //! All short lines, sound or not, of the bytes that have a meaning in lines and one label byte.
 
+use crate::question::Question;
+
 const BYTES: [u8; 7] = *b"/*[].a\n";
 
 /// Every line of at most so many of these bytes, the shorter ones first.
@@ -16,4 +18,15 @@ pub fn all_lines(most: usize) -> Vec<Vec<u8>> {
         shorter = shorter.end..all.len();
     }
     all
+}
+
+/// The line read with a sheet that has the labels a and aa, but no longer ones, and with room for two steps.
+pub fn reading_of(line: &[u8]) -> Question {
+    Question {
+        letter: b'N',
+        sheet: b"\x02\x01a\x02aa\0".to_vec(),
+        line: line.to_vec(),
+        room: 7,
+        ..Question::default()
+    }
 }

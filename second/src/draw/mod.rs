@@ -23,7 +23,7 @@ mod to_write;
 mod turns;
 
 pub use aims::aims_of;
-pub use all_lines::all_lines;
+pub use all_lines::{all_lines, reading_of};
 pub use ends::{ends, Ending};
 pub use inputs::Inputs;
 pub use turns::Draw;
