@@ -11,12 +11,12 @@ function eight(t,    r, i, n) {
     return r
 }
 
-# an answer: words after the number may be @, ~ and .., which stand for the lent bytes
+# an answer: words after the number may be @, ~, "text" and .., which stand for the lent bytes
 function answer(t,    p, n, i, r, lent) {
     n = split(t, p, " "); r = p[1]; lent = ""
     for (i = 2; i <= n; i++) {
         if (p[i] == "..") { while (length(lent) < 2 * room) lent = lent "a5"; continue }
-        if (p[i] ~ /^[@~]/) { lent = lent word(p[i]); continue }
+        if (p[i] ~ /^[@~"]/) { lent = lent word(p[i]); continue }
         r = r " " p[i]
     }
     if (lent != "") r = r " " lent
