@@ -6,7 +6,9 @@ use crate::input::Short;
 use crate::output;
 use meaning::Asked;
 use meaning::Built;
+use meaning::Lined;
 use meaning::Merged;
+use meaning::Output;
 use meaning::Routed;
 use meaning::Tabled;
 
@@ -33,7 +35,20 @@ pub fn answer(l: u8) -> bool {
 
 fn is_letter(l: u8) -> bool {
     match l {
-        b'S' | b'D' | b'T' | b'M' | b'C' | b'G' | b'B' | b'P' | b'R' | b'W' | b'L' => true,
+        b'S'
+        | b'D'
+        | b'T'
+        | b'M'
+        | b'C'
+        | b'G'
+        | b'B'
+        | b'P'
+        | b'R'
+        | b'W'
+        | b'L'
+        | b'N'
+        | b'V'
+        | b'U' => true,
         _ => false,
     }
 }
@@ -50,6 +65,8 @@ fn call(l: u8, s: &[u8]) -> bool {
         b'P' => plain_route(s),
         b'R' | b'W' => with_table(l, s),
         b'L' => label(s),
+        b'N' | b'V' => with_text(l, s),
+        b'U' => subscription_line(s),
         _ => false,
     }
 }
@@ -244,4 +261,77 @@ fn label(s: &[u8]) -> bool {
     output::number(hub::label_number(s, &d[..m.count], l));
     output::bytes(hub::label_bytes(s, &d[..m.count], l));
     true
+}
+
+// A line or a pattern's bytes, and room: the line read, or the pattern written as a line.
+fn with_text(l: u8, s: &[u8]) -> bool {
+    let mut text = io::large_buffer();
+    let m = input::bytes(&mut text);
+    if !m.whole {
+        return false;
+    }
+    let mut out = [LENT; 65535];
+    let room = input::room(&out);
+    if !room.whole {
+        return false;
+    }
+    if l == b'N' {
+        read_line(s, &text[..m.count], &mut out[..room.count]);
+    } else {
+        write_pattern(s, &text[..m.count], &mut out[..room.count]);
+    }
+    true
+}
+
+fn read_line(s: &[u8], line: &[u8], out: &mut [u8]) {
+    match hub::read_line(s, line, out) {
+        Lined::Refused { number, place } => {
+            output::number(number);
+            output::value(place as u64);
+            output::value(0);
+        }
+        Lined::Wrote(length) => {
+            output::number(0);
+            output::value(0);
+            output::value(length as u64);
+        }
+    }
+    output::bytes(out);
+}
+
+fn write_pattern(s: &[u8], p: &[u8], out: &mut [u8]) {
+    written(hub::write_pattern(s, p, out));
+    output::bytes(out);
+}
+
+fn subscription_line(s: &[u8]) -> bool {
+    let Long::Is(i) = input::number() else {
+        return false;
+    };
+    let mut out = [LENT; 65535];
+    let room = input::room(&out);
+    if !room.whole {
+        return false;
+    }
+    write_subscription(s, i, &mut out[..room.count]);
+    true
+}
+
+fn write_subscription(s: &[u8], i: u64, out: &mut [u8]) {
+    written(hub::write_subscription(s, i, out));
+    output::bytes(out);
+}
+
+// The number, and how many bytes were written.
+fn written(w: Output) {
+    match w {
+        Output::Refused(n) => {
+            output::number(n);
+            output::value(0);
+        }
+        Output::Wrote(length) => {
+            output::number(0);
+            output::value(length as u64);
+        }
+    }
 }
