@@ -1,11 +1,11 @@
 pub mod Turns
-pub mod Fitting
+pub mod FittingTurns
 pub mod Names
 pub mod Courses
 pub mod Ends
 pub mod Found
 pub mod Kept
-pub mod Reached
+pub mod ReadSoFar
 pub mod NearRoots
 pub mod Said
 pub mod Limit

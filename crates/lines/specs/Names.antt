@@ -26,15 +26,6 @@ unfoldable pub labelLong : List ℕ → ℕ
 labelLong [] = 0
 labelLong (b ∷ bs) = let later = labelLong bs in pick (barred b) 0 (suc later)
 
-pub label-within : (bs : List ℕ) → labelLong bs ≤ length bs
-unfolding labelLong pick
-label-within [] = omega arith
-label-within (b ∷ bs) = go (barred b) (label-within bs)
-  where
-    go : (t : Bool) → labelLong bs ≤ length bs → pick t 0 (suc (labelLong bs)) ≤ suc (length bs)
-    go true h = omega arith
-    go false h = omega arith
-
 -- ---- a loop that looks for its end: from here it is as far as from the start
 module _ (line : List ℕ) (i whole : ℕ) (left : i + labelLong (drop i line) ≡ whole) where
   pub label-stops : i < length line → barred (getD line i 0) ≡ true → i ≡ whole

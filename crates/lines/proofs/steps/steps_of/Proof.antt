@@ -16,8 +16,8 @@ use Rattle.shapes.specs.declared.Pattern.{Pattern}
 use Rattle.lines.specs.declared.course.Course.{Course}
 use Rattle.lines.specs.Kept.{count-most}
 use Rattle.lines.specs.Courses.{movedCourse, openedCourse, closedCourse, namedCourse}
-use Rattle.lines.specs.Reached.{Reached, reached-first, reached-stuck, reached-moves, reached-opens, reached-unopened}
-use Rattle.lines.specs.Reached.{reached-closes, reached-names, reached-end, reached-off}
+use Rattle.lines.specs.ReadSoFar.{Reached, reached-first, reached-stuck, reached-moves, reached-opens, reached-unopened}
+use Rattle.lines.specs.ReadSoFar.{reached-closes, reached-names, reached-end, reached-off}
 use Rattle.lines.proofs.steps.steps_of.Statement.{statement}
 use Rattle.lines.proofs.steps.steps_of.Tie as tie
 

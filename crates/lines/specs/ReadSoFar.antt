@@ -31,7 +31,7 @@ use Rattle.lines.specs.declared.turns.Turn.the-variants as turn
 use Rattle.lines.specs.declared.names.Name.{Name}
 use Rattle.lines.specs.declared.course.Course.{Course}
 use Rattle.lines.specs.Turns.{turnAt, modeOf, act, turn-next}
-use Rattle.lines.specs.Fitting.{branching, fitting, turn-fits}
+use Rattle.lines.specs.FittingTurns.{branching, fitting, turn-fits}
 use Rattle.lines.specs.Names.{labelLong, labelEnd, textFrom, nameAt, label-read}
 use Rattle.lines.specs.Courses.{firstCourse, movedCourse, openedCourse, closedCourse, counted, namedCourse}
 use Rattle.lines.specs.Found.{countOf, StepsAre, offLine, soundLine, FoundIs}
