@@ -31,7 +31,7 @@ use Rattle.meaning.specs.Calls.{buildWriting, buildAnswer, plainAnswer, tableAn
 use Rattle.meaning.specs.PatternText.{patternText}
 use Rattle.meaning.specs.Notation.{writable, called, Sketch, Line, Drawn, drawnSize, stepsDrawn, RefusedAt}
 use Rattle.meaning.specs.Lines.{offAt, draws, readLine}
-use Rattle.meaning.specs.LineCalls.{knownDrawn, numberedStep, lineAnswer, stepWritable, textWriting, onlyPattern}
+use Rattle.meaning.specs.LineCalls.{nameNumber, isKnown, knownDrawn, numberedStep, lineAnswer, stepWritable, textWriting, onlyPattern}
 use Rattle.meaning.specs.LineCalls.{patternWriting, subscriptionWriting, outputAnswer}
 use Rattle.meaning.specs.Printing.{asking}
 use Rattle.meaning.specs.Given.{Given, refusal, ToldByNumber, askedGiven, MergeValues, mergedGiven}
@@ -63,7 +63,7 @@ use Rattle.laws.specs.Rising.{Rising}
 use Rattle.laws.specs.WantedRoutes.{routeNotZero, wanted-by-table, wanted-by, answer-wanted, tried-no-more, tried-all}
 use Rattle.laws.specs.MergeNears.{nears}
 use Rattle.laws.specs.LineMeaning.{one-sketch}
-use Rattle.laws.specs.LineLabels.{labels-writable}
+use Rattle.laws.specs.LineLabels.{labels-writable, number-of-label}
 use Rattle.laws.specs.LineJudged.{line-accepted, accepted-line, refused-place, place-refused}
 use Rattle.laws.specs.LineForest.{drawnForest, drawn-steps, drawn-sound, drawn-unknown, drawn-many, drawn-nears, drawn-written}
 use Rattle.laws.specs.LineAnswers.{LineWrites, LineRefused, sheet-refused, other-refused, refused-other, line-writes, line-refused}
@@ -421,6 +421,10 @@ one-drawing = one-sketch
 -- a label that is not writable is not readable
 pub not-readable : (line : List ℕ) (t : Sketch) → Line line t → (d : Drawn) → List·Memᴰ d (stepsDrawn t) → (l : List ℕ) → d .name ≡ called l → writable l ≡ true
 not-readable = labels-writable
+
+-- a label that is known gets the number of the label with these bytes
+pub label-numbered : (ls : List (List ℕ)) (l : List ℕ) → isKnown ls (called l) ≡ true → labelAt ls (nameNumber ls (called l)) ≡ l
+label-numbered = number-of-label
 
 -- ---- all other bytes are off, at the first byte that no line of any length could have there (the length if they only end early), at
 -- most 1,024, and 1,024 for a sound longer line
