@@ -22,7 +22,7 @@ use Rattle.meaning.specs.Calls.{plainAnswer, tableAnswer, wantedAnswer, matches
 use Rattle.meaning.specs.Calls.{subscription, labelPart}
 use Rattle.meaning.specs.Notation.{Drawn}
 use Rattle.meaning.specs.Lines.{LineRead, offAt, draws, readLine}
-use Rattle.meaning.specs.LineCalls.{drawnWriting, lineJudged, lineThen, linedAnswer, lineAnswer, lineOutput, textWriting, onlyPattern}
+use Rattle.meaning.specs.LineCalls.{inOrder, drawnWriting, lineJudged, lineThen, linedAnswer, lineAnswer, lineOutput, textWriting, onlyPattern}
 use Rattle.meaning.specs.LineCalls.{patternWriting, subscriptionWriting, outputAnswer}
 use Rattle.meaning.specs.Given.{Given, refusal, gives, byNumber, ToldByNumber, askedGiven, MergeValues, mergedGiven}
 use Rattle.meaning.specs.Given.{BuildValues, builtGiven, LineValues, linedGiven, outputGiven, routedGiven, RouteValues, tabledGiven}
@@ -213,7 +213,7 @@ written-placed (refuses n) h = (h, omega arith, λ other. refl)
 written-placed (writes u bs) h = tt
 
 drawn-not-zero : (ls : List (List ℕ)) (ds : List Drawn) → WritingNotZero (drawnWriting ls ds)
-unfolding drawnWriting WritingNotZero
+unfolding drawnWriting inOrder WritingNotZero
 drawn-not-zero ls ds =
     test-writing _ _ labelUnknown (omega arith) (test-writing _ _ countOutside (omega arith) (test-writing _ _ secondNear (omega arith) tt))
 

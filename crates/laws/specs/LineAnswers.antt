@@ -16,7 +16,7 @@ use Rattle.meaning.specs.Written.{stepsBytes}
 use Rattle.meaning.specs.Notation.{Sketch, Line, Drawn, stepsDrawn, RefusedAt}
 use Rattle.meaning.specs.Lines.{LineRead, offAt, draws, readLine}
 use Rattle.meaning.specs.Calls.{judged, Writing, refuses, writes, withRoom, after}
-use Rattle.meaning.specs.LineCalls.{knownDrawn, numberedStep, drawnWriting, lineJudged, lineThen, linedAnswer, lineAnswer, lineOutput}
+use Rattle.meaning.specs.LineCalls.{knownDrawn, numberedStep, inOrder, drawnWriting, lineJudged, lineThen, linedAnswer, lineAnswer, lineOutput}
 use Rattle.meaning.specs.Given.{refusal, linedGiven}
 use Rattle.meaning.specs.declared.Step.{Step}
 use Rattle.meaning.specs.declared.Lined.the-variants as lined
@@ -44,7 +44,7 @@ sheet-refused s line n h = record { answer = λ out. rw h; output = λ out. rw h
 
 -- what is drawn is never refused by 13
 drawn-not-13 : (out : List ℕ) (ls : List (List ℕ)) (ds : List Drawn) (i : ℕ) → linedAnswer (withRoom out (drawnWriting ls ds)) ≡ lined.Refused notALine i → ⊥
-unfolding linedAnswer withRoom drawnWriting pick linedGiven refusal
+unfolding linedAnswer withRoom drawnWriting inOrder pick linedGiven refusal
 drawn-not-13 out ls ds i h = go (every (knownDrawn ls) ds) (leb (length ss) mostSteps) (leb (length (keep isNearRoot ss)) 1) h
   where
     ss : List Step

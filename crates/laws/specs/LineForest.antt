@@ -15,7 +15,7 @@ use Rattle.meaning.specs.Sections.{sameLabel}
 use Rattle.meaning.specs.Written.{stepBytes, stepsBytes, patternBytes}
 use Rattle.meaning.specs.Notation.{Name, any, called, Sketch, blank, draw, drawnSize, drawnFrom, stepsDrawn}
 use Rattle.meaning.specs.Calls.{refuses, writes}
-use Rattle.meaning.specs.LineCalls.{numberFrom, nameNumber, knownDrawn, numberedStep, drawnWriting}
+use Rattle.meaning.specs.LineCalls.{numberFrom, nameNumber, knownDrawn, numberedStep, inOrder, drawnWriting}
 use Rattle.meaning.specs.declared.Step.{Step}
 use Rattle.laws.specs.Bridge.{length-stepsOf}
 use Rattle.laws.specs.MergeLabels.{LabelsWithin}
@@ -85,18 +85,18 @@ module _ (ls : List (List ℕ)) where
 module _ (ls : List (List ℕ)) (t : Sketch) where
   -- not all its labels are the sheet's
   pub drawn-unknown : every (knownDrawn ls) (stepsDrawn t) ≡ false → drawnWriting ls (stepsDrawn t) ≡ refuses labelUnknown
-  unfolding drawnWriting pick
+  unfolding drawnWriting inOrder pick
   drawn-unknown k = rw k
 
   -- they are, and there are more than 16 steps
   pub drawn-many : every (knownDrawn ls) (stepsDrawn t) ≡ true → mostSteps < drawnSize t → drawnWriting ls (stepsDrawn t) ≡ refuses countOutside
-  unfolding drawnWriting pick
+  unfolding drawnWriting inOrder pick
   drawn-many k many = rw (k, drawn-steps ls t, length-stepsOf (drawnForest ls t), drawn-size ls t, lt-leb (drawnSize t) mostSteps many)
 
   -- there are at most 16, and more than one root step is near
   pub drawn-nears : every (knownDrawn ls) (stepsDrawn t) ≡ true → drawnSize t ≤ mostSteps → 1 < nears (drawnForest ls t)
       → drawnWriting ls (stepsDrawn t) ≡ refuses secondNear
-  unfolding drawnWriting pick
+  unfolding drawnWriting inOrder pick
   drawn-nears k few two =
       rw (
         k,
@@ -111,7 +111,7 @@ module _ (ls : List (List ℕ)) (t : Sketch) where
   -- at most one is: the pattern's bytes
   pub drawn-written : every (knownDrawn ls) (stepsDrawn t) ≡ true → drawnSize t ≤ mostSteps → nears (drawnForest ls t) ≤ 1
       → drawnWriting ls (stepsDrawn t) ≡ writes tt (patternBytes (drawnForest ls t))
-  unfolding drawnWriting pick
+  unfolding drawnWriting inOrder pick
   drawn-written k few one =
       rw (
         k,

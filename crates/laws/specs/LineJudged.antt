@@ -1,5 +1,5 @@
 -- The limit of 1,024 bytes put on lines: the reader accepts exactly those within it, with the steps that they draw; the place that it
--- gives for all other bytes is where they are refused; and it looks at no more than 1,025 bytes.
+-- gives for all other bytes is where they are refused; and of a longer line the first 1,024 bytes decide.
 use Prim.Native.Nat.{ℕ, zero, suc, _+_, _≤_, _<_}
 use mathlib.Core.Path.{_≡_, refl, sym, ap, _∙_, subst}
 use mathlib.Core.Logic.{inl, inr, ⊎-elim}
@@ -9,7 +9,6 @@ use native.Mathlib.Omega.{arith}
 use borrow.Author.Tests.{leb-true, leb-false, le-leb, lt-leb}
 use lib.Dec.{leb}
 use lib.ListN.{length, take}
-use lib.Seq.{length-take-le}
 use Rattle.base.specs.Choice.{pick}
 use Rattle.meaning.specs.Numbers.{longestLine}
 use Rattle.meaning.specs.Notation.{Sketch, Line, Drawn, stepsDrawn, Begins, FirstFault, RefusedAt}
@@ -112,7 +111,7 @@ place-refused s i h = ⊎-elim (λ f. ap (within s) (fault-only s i (f .1)) ∙ 
         ap (within s) k ∙ put-late s j (omega arith)
     go long before (draws ds) k = ap (within s) k ∙ put-long s ds long
 
--- ---- no more than 1,025 bytes are looked at
+-- ---- of a longer line the first 1,024 bytes decide
 
 -- from the limit on, whatever is read is put there
 put-behind : (w : List ℕ) → longestLine < length w → (i : ℕ) (c : Stand) (s : List ℕ) → longestLine ≤ i → within w (readFrom i c s) ≡ offAt longestLine
@@ -142,16 +141,7 @@ cut-from w long (suc n) i c (b ∷ s) h = go (next b c) (λ d. cut-from w long n
     go stuck later = refl
     go (to d) later = later d
 
--- of two lines beyond the limit the same is made
-both-long : (v w : List ℕ) → longestLine < length v → longestLine < length w → (r : LineRead) → within v r ≡ within w r
-unfolding within
-both-long v w h k (offAt i) = refl
-both-long v w h k (draws ds) = put-long v ds h ∙ sym (put-long w ds k)
-
--- a longer line is read as its first 1,025 bytes are
-pub cut-line : (s : List ℕ) → suc longestLine ≤ length s → readLine (take (suc longestLine) s) ≡ readLine s
+-- a longer line is read as its first 1,024 bytes, but that it is off there at the latest
+pub cut-line : (s : List ℕ) → longestLine < length s → readLine s ≡ within s (readAny (take longestLine s))
 unfolding readLine readAny
-cut-line s h =
-    let front = take (suc longestLine) s in
-    both-long front s (omega (arith, length-take-le (suc longestLine) s h)) h (readAny front)
-    ∙ cut-from s h (suc longestLine) 0 start s (omega arith)
+cut-line s h = sym (cut-from s h longestLine 0 start s (omega arith))

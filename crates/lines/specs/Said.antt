@@ -17,7 +17,7 @@ use Rattle.meaning.specs.Written.{stepsBytes, patternBytes}
 use Rattle.meaning.specs.Notation.{Sketch, Drawn, stepsDrawn}
 use Rattle.meaning.specs.Lines.{LineRead, offAt, draws, readLine}
 use Rattle.meaning.specs.Calls.{Writing, refuses, writes, withRoom, after}
-use Rattle.meaning.specs.LineCalls.{knownDrawn, numberedStep, drawnWriting, lineJudged, lineThen, linedAnswer, lineAnswer, lineOutput}
+use Rattle.meaning.specs.LineCalls.{knownDrawn, numberedStep, inOrder, drawnWriting, lineJudged, lineThen, linedAnswer, lineAnswer, lineOutput}
 use Rattle.meaning.specs.declared.Step.{Step}
 use Rattle.meaning.specs.declared.Lined.{Lined}
 use Rattle.meaning.specs.declared.Lined.the-variants as lined
@@ -33,10 +33,6 @@ use Rattle.reading.specs.SheetSection.{sheetPlace}
 use Rattle.reading.specs.SheetJudged.{sheet-judged}
 use Rattle.lines.specs.declared.steps.Found.{Found}
 use Rattle.lines.specs.Found.{countOf, StepsAre, FoundIs}
-
--- labels, the number of steps and the near steps with parent 0 are judged in this order
-unfoldable pub inOrder : Bool → Bool → Bool → List ℕ → Writing (Unit {0})
-inOrder known few lone bytes = pick known (pick few (pick lone (writes tt bytes) (refuses secondNear)) (refuses countOutside)) (refuses labelUnknown)
 
 -- where there are too many, the steps don't matter
 too-many : (known a b : Bool) (xs ys : List ℕ) → inOrder known false a xs ≡ inOrder known false b ys

@@ -1,4 +1,4 @@
-// The limit of 1,024 bytes: a longer line is refused, and no more than 1,025 bytes of it are looked at.
+// The limit of 1,024 bytes: a longer line is refused, at 1,024 at the latest, and nothing behind that is looked at.
 use crate::steps::Found;
 use crate::steps::off;
 use crate::steps::steps_of;
@@ -13,11 +13,8 @@ pub fn steps_within(s: &[u8], line: &[u8]) -> Found
     if line.len() <= LONGEST_LINE {
         return steps_of(s, line);
     }
-    let f = steps_of(s, &line[..LONGEST_LINE + 1]);
+    let f = steps_of(s, &line[..LONGEST_LINE]);
     if f.sound {
-        return off(LONGEST_LINE);
-    }
-    if LONGEST_LINE < f.place {
         return off(LONGEST_LINE);
     }
     f

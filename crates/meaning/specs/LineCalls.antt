@@ -46,15 +46,20 @@ numberedStep ls d = record { parent = d .parent; axis = axisNumber (d .axis); la
 
 -- ---- a line read
 
--- first all labels, also those after the sixteenth step, then the number of steps, then the near steps with parent 0
+-- bytes are written where all labels are known, also those after the sixteenth step; there are few steps; there is at most one near
+-- step with parent 0; judged in this order
+unfoldable pub inOrder : Bool → Bool → Bool → List ℕ → Writing (Unit {0})
+inOrder known few lone bytes =
+    pick known
+    (pick few
+    (pick lone (writes tt bytes) (refuses secondNear))
+    (refuses countOutside))
+    (refuses labelUnknown)
+
 unfoldable pub drawnWriting : List (List ℕ) → List Drawn → Writing (Unit {0})
 drawnWriting ls ds =
     let ss : List Step = map (numberedStep ls) ds in
-    pick (every (knownDrawn ls) ds)
-    (pick (leb (length ss) mostSteps)
-    (pick (leb (length (keep isNearRoot ss)) 1) (writes tt (stepsBytes ss)) (refuses secondNear))
-    (refuses countOutside))
-    (refuses labelUnknown)
+    inOrder (every (knownDrawn ls) ds) (leb (length ss) mostSteps) (leb (length (keep isNearRoot ss)) 1) (stepsBytes ss)
 
 module _ {B : Type 0} where
   -- the place of the first fault, or what follows from the steps
