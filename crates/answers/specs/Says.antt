@@ -1,6 +1,6 @@
 -- What the calls say of a sheet that was judged; and each answer, from the place where judging the sheet ended.
 use Prim.Native.Nat.{ℕ, _≤_, _<_}
-use mathlib.Core.Path.{_≡_, refl, sym, ap, ap₂, _∙_}
+use mathlib.Core.Path.{_≡_, refl, ap, ap₂, _∙_}
 use mathlib.Core.Bool.{Bool, true, false, _&&_}
 use mathlib.Core.List.{List}
 use borrow.Author.Tests.{lt-ltb, le-ltb}
@@ -22,10 +22,9 @@ use Rattle.shapes.specs.Shapes.{patternOf}
 use Rattle.shapes.specs.declared.Pattern.{Pattern}
 use Rattle.reading.specs.SheetPlaces.{sheetAt}
 use Rattle.reading.specs.SheetSection.{sheetPlace}
-use Rattle.reading.specs.SheetJudged.{sheet-judged}
+use Rattle.reading.specs.SheetJudged.{sheet-said, sheet-refused}
 use Rattle.subscriptions.specs.declared.Subscriptions.{Subscriptions}
 use Rattle.subscriptions.specs.Subscribed.{SubscriptionsStand}
-use Rattle.places.specs.Reached.{reached}
 
 -- both numbers are those of subscriptions
 unfoldable pub bothThere : Sheet → ℕ → ℕ → Bool
@@ -87,52 +86,34 @@ pub covers-not-there : (sh : Sheet) (i j : ℕ) → bothThere sh i j ≡ false �
 unfolding coversSays
 covers-not-there sh i j there = pick-false _ _ _ (bothThere sh i j) there refl
 
--- ---- each call, from the place where judging the sheet ended
+-- ---- each call, from the place where judging the sheet ended: where the sheet is sound, and where it is refused
 
 module _ (s : List ℕ) where
   module _ (i j : ℕ) where
     -- whether i covers j
-    covers-by-place : coversAnswer s i j ≡ reached (sheetPlace s) asked.Refused (coversSays (sheetAt s) i j)
-    unfolding coversAnswer coversSays bothThere
-    covers-by-place = sheet-judged s asked.Refused (λ sh. coversSays sh i j)
-
-    -- where the sheet is sound
     pub covers-said : (y : ℕ) → sheetPlace s ≡ At y → coversSays (sheetAt s) i j ≡ coversAnswer s i j
-    unfolding reached
-    covers-said y h = sym (covers-by-place ∙ rw h)
+    unfolding coversAnswer coversSays bothThere
+    covers-said = sheet-said s asked.Refused (λ sh. coversSays sh i j)
 
-    -- where it is refused
     pub covers-refused : (n : ℕ) → sheetPlace s ≡ No n → asked.Refused n ≡ coversAnswer s i j
-    unfolding reached
-    covers-refused n h = sym (covers-by-place ∙ rw h)
+    unfolding coversAnswer coversSays bothThere
+    covers-refused = sheet-refused s asked.Refused (λ sh. coversSays sh i j)
 
     -- the merge of i with j
-    merge-by-place : mergeWriting s i j ≡ reached (sheetPlace s) refuses (mergeSays (sheetAt s) i j)
-    unfolding mergeWriting mergeSays markedSays bothThere
-    merge-by-place = sheet-judged s refuses (λ sh. mergeSays sh i j)
-
-    -- where the sheet is sound
     pub merge-said : (y : ℕ) → sheetPlace s ≡ At y → mergeSays (sheetAt s) i j ≡ mergeWriting s i j
-    unfolding reached
-    merge-said y h = sym (merge-by-place ∙ rw h)
+    unfolding mergeWriting mergeSays markedSays bothThere
+    merge-said = sheet-said s refuses (λ sh. mergeSays sh i j)
 
-    -- where it is refused
     pub merge-refused : (n : ℕ) → sheetPlace s ≡ No n → refuses n ≡ mergeWriting s i j
-    unfolding reached
-    merge-refused n h = sym (merge-by-place ∙ rw h)
+    unfolding mergeWriting mergeSays markedSays bothThere
+    merge-refused = sheet-refused s refuses (λ sh. mergeSays sh i j)
 
   module _ (limit : ℕ) where
     -- the table for a limit
-    build-by-place : buildWriting s limit ≡ reached (sheetPlace s) refuses (buildSays (sheetAt s) limit)
-    unfolding buildWriting buildSays tableSays
-    build-by-place = sheet-judged s refuses (λ sh. buildSays sh limit)
-
-    -- where the sheet is sound
     pub build-said : (y : ℕ) → sheetPlace s ≡ At y → buildSays (sheetAt s) limit ≡ buildWriting s limit
-    unfolding reached
-    build-said y h = sym (build-by-place ∙ rw h)
+    unfolding buildWriting buildSays tableSays
+    build-said = sheet-said s refuses (λ sh. buildSays sh limit)
 
-    -- where it is refused
     pub build-refused : (n : ℕ) → sheetPlace s ≡ No n → refuses n ≡ buildWriting s limit
-    unfolding reached
-    build-refused n h = sym (build-by-place ∙ rw h)
+    unfolding buildWriting buildSays tableSays
+    build-refused = sheet-refused s refuses (λ sh. buildSays sh limit)

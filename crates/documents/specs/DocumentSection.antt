@@ -20,7 +20,7 @@ use Rattle.shapes.specs.Shapes.{nodeAt, afterNode, nodesAt}
 use Rattle.places.specs.Bytes.{pairAt, endPlace}
 use Rattle.places.specs.Answer.{answer, andThen-pick}
 use Rattle.places.specs.Section.{Section, judgedAs, readAs, standsAs}
-use Rattle.labels.specs.LabelPlaces.{afterLabel, textsAt}
+use Rattle.labels.specs.LabelPlaces.{afterLabel, textsAt, labelsIn}
 use Rattle.labels.specs.LabelSection.{labelsSection}
 use Rattle.reading.specs.SheetPlaces.{sheetAt, labels-counted}
 use Rattle.places.specs.Fields.{given, byteThen, pairThen, unlessThen, unlessAs, unlessBoth, sectionThen, endThen}
@@ -115,7 +115,7 @@ nodesToEnd s d n x =
     (simp andThen-pick)
 
 unfoldable pub documentSection : (s d : List ℕ) → Section d (document (sheetAt s)) 0
-unfolding document nodesToEnd documentAt nodeCountAt sheetAt labelsSection textsAt
+unfolding document nodesToEnd documentAt nodeCountAt sheetAt labelsIn labelsSection textsAt
 documentSection s d =
     standsAs (documentAt d) _ (
     byteThen λ n.

@@ -12,7 +12,7 @@ use Rattle.base.specs.declared.Cur.the-variants.{At, No}
 use Rattle.meaning.specs.Sections.{Sheet, sheet, Document, document}
 use Rattle.meaning.specs.LabelBytes.{labelsOf, isLabel, labelAt}
 use Rattle.meaning.specs.Calls.{judged, labelNumber, labelPart}
-use Rattle.labels.specs.LabelPlaces.{textAt, afterLabel, textsAt}
+use Rattle.labels.specs.LabelPlaces.{textAt, afterLabel, textsAt, labelsIn}
 use Rattle.reading.specs.SheetPlaces.{sheetAt}
 use Rattle.places.specs.Reached.{was-reached, was-refused}
 use Rattle.documents.specs.DocumentJudged.{both-judged, sheetDocumentPlace}
@@ -39,7 +39,7 @@ module _ (s d : List ℕ) (n : ℕ) where
 
   -- there are S + D of them
   labels-counted : length (labelsOf (sheetAt s) (documentAt d)) ≡ getD s 0 0 + getD d 0 0
-  unfolding labelsOf sheetAt documentAt
+  unfolding labelsOf sheetAt labelsIn documentAt
   labels-counted = simp (length-append, length-texts)
 
   -- the number of a label: whether it exists
@@ -84,7 +84,7 @@ module _ (s d : List ℕ) (n : ℕ) where
 
   -- otherwise it is one of both, counted from 0
   told : (x : ℕ) → sheetDocumentPlace s d ≡ At x → 1 ≤ n → labelPart s d n ≡ getD bothTexts (n - 1) []
-  unfolding labelPart labelsOf sheetAt documentAt
+  unfolding labelPart labelsOf sheetAt labelsIn documentAt
   told x h a = both-read s d _ _ x h ∙ counted-from-one bothTexts n a
 
   -- from the sheet's section
@@ -109,5 +109,5 @@ module _ (s d : List ℕ) (n : ℕ) where
 
   -- empty past the last
   pub part-over : (x : ℕ) → sheetDocumentPlace s d ≡ At x → getD s 0 0 < n → getD d 0 0 < n - getD s 0 0 → [] ≡ labelPart s d n
-  unfolding labelsOf sheetAt documentAt
+  unfolding labelsOf sheetAt labelsIn documentAt
   part-over x h a b = sym (told x h (omega arith) ∙ List·getD-eq-default bothTexts [] (omega (arith, labels-counted)))

@@ -26,11 +26,10 @@ use Rattle.laws.specs.LineForest.{drawnForest, drawn-steps, drawn-bytes}
 use Rattle.laws.specs.LineJudged.{accepted-line}
 use Rattle.shapes.specs.Shapes.{stepsIn, patternOf, WellFormed}
 use Rattle.shapes.specs.declared.Pattern.{Pattern}
-use Rattle.places.specs.Reached.{was-reached, was-refused}
 use Rattle.writing.specs.Gives.{Gives, gives-same}
 use Rattle.reading.specs.SheetPlaces.{sheetAt}
 use Rattle.reading.specs.SheetSection.{sheetPlace}
-use Rattle.reading.specs.SheetJudged.{sheet-judged}
+use Rattle.reading.specs.SheetJudged.{sheet-said, sheet-refused}
 use Rattle.lines.specs.declared.steps.Found.{Found}
 use Rattle.lines.specs.Found.{countOf, StepsAre, FoundIs}
 
@@ -159,18 +158,14 @@ module _ (ls : List (List ℕ)) (line out : List ℕ) (f : Found) (found : Found
       let t = accepted-line line (d .0) (d .1) in
       rw (d .1) (gives-same linedAnswer out _ _ (drawn-said (d .2) (t .1) (t .3)) r now g)
 
--- ---- the call, from the place where judging the sheet ended
+-- ---- the call, from the place where judging the sheet ended: where the sheet is sound, and where it is refused
 
 module _ (s line out : List ℕ) where
   pub line-said : (y : ℕ) → sheetPlace s ≡ At y → (r : Lined) (now : List ℕ) → LineGives (sheetAt s .labels) line out r now
       → (r ≡ lineAnswer out s line) × (now ≡ lineOutput out s line)
   unfolding lineAnswer lineOutput lineThen
-  line-said y h r now g = (
-    g .0 ∙ sym (sheet-judged s _ _ ∙ was-reached (sheetPlace s) y _ _ h),
-    g .1 ∙ sym (sheet-judged s _ _ ∙ was-reached (sheetPlace s) y _ _ h),
-  )
+  line-said y h r now g = (g .0 ∙ sheet-said s _ _ y h, g .1 ∙ sheet-said s _ _ y h)
 
   pub line-refused : (n : ℕ) → sheetPlace s ≡ No n → (lined.Refused n 0 ≡ lineAnswer out s line) × (out ≡ lineOutput out s line)
   unfolding lineAnswer lineOutput lineThen
-  line-refused n h =
-      (sym (sheet-judged s _ _ ∙ was-refused (sheetPlace s) n _ _ h), sym (sheet-judged s _ _ ∙ was-refused (sheetPlace s) n _ _ h))
+  line-refused n h = (sheet-refused s _ _ n h, sheet-refused s _ _ n h)

@@ -25,22 +25,17 @@ use Rattle.texts.specs.PutText.{Written, put}
 use Rattle.labels.specs.LabelPlaces.{labelsIn}
 use Rattle.printing.specs.TableTexts.{builtTable, textOf, text-of}
 
--- the labels that are put are the sheet's
-sheet-labels : (s : List ℕ) → sheetAt s .labels ≡ labelsIn s
-unfolding sheetAt labelsIn
-sheet-labels s = refl
-
 -- the text of a table that was built from one entry for each subscription is that of the build
 pub text-built : (s : List ℕ) (count limit rounds : ℕ) (t first : Table) → count ≡ length (sheetAt s .patterns)
     → tableOf first ≡ entriesFrom 0 (sheetAt s .patterns) → tableOf t ≡ buildFrom limit (tableOf first) .entries
     → rounds ≡ buildFrom limit (tableOf first) .rounds
     → textOf (labelsIn s) count (builtTable t rounds) ≡ tableText (sheetAt s) (build limit (sheetAt s .patterns))
-unfolding builtTable
+unfolding builtTable sheetAt
 text-built s count limit rounds t first counted one entries turns =
     let built : buildFrom limit (tableOf first) ≡ build limit (sheetAt s .patterns) = ap (buildFrom limit) one ∙ build-from limit (sheetAt s .patterns) in
     let same : builtTable t rounds ≡ build limit (sheetAt s .patterns) =
     λ i. record { entries = (entries ∙ ap (λ (b : Building.Table). b .entries) built) i; rounds = (turns ∙ ap (λ (b : Building.Table). b .rounds) built) i } in
-    sym (text-of (sheetAt s) (labelsIn s) count (builtTable t rounds) (sheet-labels s) (sym counted)) ∙ ap (tableText (sheetAt s)) same
+    sym (text-of (sheetAt s) (labelsIn s) count (builtTable t rounds) refl (sym counted)) ∙ ap (tableText (sheetAt s)) same
 
 -- fewer than two bytes of limit
 pub printed-short : (s : List ℕ) → length s < 2 → printed s ≡ refusedText 1

@@ -7,7 +7,7 @@ use Rattle.base.specs.Standing.{standing, placeAfter, length-standing}
 use Rattle.meaning.specs.Forest.{Forest, forest}
 use Rattle.meaning.specs.Sections.{Sheet}
 use Rattle.meaning.specs.declared.Step.{Step}
-use Rattle.labels.specs.LabelPlaces.{textAt, textsAt, afterLabel}
+use Rattle.labels.specs.LabelPlaces.{textAt, textsAt, afterLabel, labelsIn}
 
 -- ---- steps: parent, axis, label
 
@@ -45,9 +45,9 @@ patternCountAt s = placeAfter (afterLabel s) 1 (getD s 0 0)
 
 -- the sheet that stands in the bytes
 unfoldable pub sheetAt : List ℕ → Sheet
-sheetAt s = record { labels = textsAt s 1 (getD s 0 0); patterns = forestsAt s (patternCountAt s + 1) (getD s (patternCountAt s) 0) }
+sheetAt s = record { labels = labelsIn s; patterns = forestsAt s (patternCountAt s + 1) (getD s (patternCountAt s) 0) }
 
 -- it has as many labels as their count says
 pub labels-counted : (s : List ℕ) → length (sheetAt s .labels) ≡ getD s 0 0
-unfolding sheetAt textsAt
+unfolding sheetAt labelsIn textsAt
 labels-counted s = length-standing (textAt s) (afterLabel s) 1 (getD s 0 0)

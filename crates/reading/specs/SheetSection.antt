@@ -15,7 +15,7 @@ use Rattle.meaning.specs.Reader.{read, _>>=_, _>>_, give, unless, byte, repeat,
 use Rattle.meaning.specs.Forest.{Forest, forest}
 use Rattle.meaning.specs.Sections.{pattern, labels, Sheet, sheet}
 use Rattle.meaning.specs.Calls.{sheetNumber}
-use Rattle.labels.specs.LabelPlaces.{textsAt}
+use Rattle.labels.specs.LabelPlaces.{textsAt, labelsIn}
 use Rattle.labels.specs.LabelSection.{labelsPlace, labelsSection, length-texts}
 use Rattle.reading.specs.SheetPlaces.{patternCountAt, sheetAt, forestAt, afterPattern, forestsAt}
 use Rattle.reading.specs.StepSection.{stepsSection}
@@ -70,7 +70,7 @@ patternsToEnd s n x =
     (simp andThen-pick)
 
 unfoldable pub sheetSection : (s : List ℕ) → Section s sheet 0
-unfolding sheet textsAt standing patternsToEnd patternSection sheetAt patternCountAt forestsAt labelsSection
+unfolding sheet textsAt standing patternsToEnd patternSection sheetAt labelsIn patternCountAt forestsAt labelsSection
 sheetSection s =
     standsAs (sheetAt s) _ (
     byteThen λ n.

@@ -39,7 +39,7 @@ pub record FirstBytes (text bytes : List ℕ) (n : ℕ) : Type 0 where
 pub line-put : (s : List ℕ) → SheetStands s → (p : Pattern) → WellFormed p → (after : List ℕ) (n : ℕ)
     → written after n ≡ put (written (replicate longestLine 0) 0) (patternText (labelsIn s) (patternOf p))
     → FirstBytes (patternText (sheetAt s .labels) (patternOf p)) after n
-unfolding sheetAt labelsIn
+unfolding sheetAt
 line-put s stands p sound after n h =
     let text = patternText (labelsIn s) (patternOf p) in
     let line = replicate {A = ℕ} longestLine 0 in

@@ -8,7 +8,7 @@ use Rattle.base.specs.Choice.{pick, pick-true, pick-false}
 use Rattle.base.specs.declared.Cur.the-variants.{At, No}
 use Rattle.meaning.specs.Numbers.{notThere}
 use Rattle.meaning.specs.Forest.{Forest}
-use Rattle.meaning.specs.Sections.{Sheet, sheet}
+use Rattle.meaning.specs.Sections.{Sheet}
 use Rattle.meaning.specs.Calls.{judged, isSubscription, subscription, Writing, refuses}
 use Rattle.meaning.specs.LineCalls.{textWriting, onlyPattern, patternWriting, subscriptionWriting}
 use Rattle.shapes.specs.Shapes.{patternOf}
@@ -16,7 +16,7 @@ use Rattle.shapes.specs.declared.Pattern.{Pattern}
 use Rattle.places.specs.Reached.{reached, section-judged, was-reached, was-refused}
 use Rattle.reading.specs.SheetPlaces.{sheetAt, forestAt, labels-counted}
 use Rattle.reading.specs.SheetSection.{sheetPlace}
-use Rattle.reading.specs.SheetJudged.{sheet-judged}
+use Rattle.reading.specs.SheetJudged.{sheet-said, sheet-refused}
 use Rattle.subscriptions.specs.Taken.{patternAt}
 use Rattle.subscriptions.specs.Subscribed.{SubscriptionsStand}
 use Rattle.subscriptions.specs.declared.Subscriptions.{Subscriptions}
@@ -65,29 +65,20 @@ module _ {s : List ℕ} {v : Subscriptions} (stand : SubscriptionsStand s v) (i 
 
 -- ---- each call, from the place where judging the sheet ended
 
-module _ (s : List ℕ) (next : Sheet → Writing (Unit {0})) where
-  -- where the sheet is sound
-  sheet-said : (y : ℕ) → sheetPlace s ≡ At y → next (sheetAt s) ≡ judged (sheet s) refuses next
-  sheet-said y h = sym (sheet-judged s refuses next ∙ was-reached (sheetPlace s) y refuses _ h)
-
-  -- where it is refused
-  sheet-refused : (n : ℕ) → sheetPlace s ≡ No n → refuses n ≡ judged (sheet s) refuses next
-  sheet-refused n h = sym (sheet-judged s refuses next ∙ was-refused (sheetPlace s) n refuses _ h)
-
 module _ (s p : List ℕ) where
   pub pattern-said : (y : ℕ) → sheetPlace s ≡ At y → patternSays (sheetAt s) p ≡ patternWriting s p
   unfolding patternSays patternWriting
-  pattern-said = sheet-said s (λ sh. patternSays sh p)
+  pattern-said = sheet-said s refuses (λ sh. patternSays sh p)
 
   pub pattern-refused : (n : ℕ) → sheetPlace s ≡ No n → refuses n ≡ patternWriting s p
   unfolding patternSays patternWriting
-  pattern-refused = sheet-refused s (λ sh. patternSays sh p)
+  pattern-refused = sheet-refused s refuses (λ sh. patternSays sh p)
 
 module _ (s : List ℕ) (i : ℕ) where
   pub subscription-said : (y : ℕ) → sheetPlace s ≡ At y → subscriptionSays (sheetAt s) i ≡ subscriptionWriting s i
   unfolding subscriptionSays subscriptionWriting
-  subscription-said = sheet-said s (λ sh. subscriptionSays sh i)
+  subscription-said = sheet-said s refuses (λ sh. subscriptionSays sh i)
 
   pub subscription-refused : (n : ℕ) → sheetPlace s ≡ No n → refuses n ≡ subscriptionWriting s i
   unfolding subscriptionSays subscriptionWriting
-  subscription-refused = sheet-refused s (λ sh. subscriptionSays sh i)
+  subscription-refused = sheet-refused s refuses (λ sh. subscriptionSays sh i)

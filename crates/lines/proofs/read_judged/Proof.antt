@@ -1,14 +1,13 @@
 -- `lines::read_judged` meets its contract: where the line is off, the output is as found.
 use borrow.Author.Needs.{needs}
 use borrow.Author.Tests.{not-true, not-false}
-use Rattle.labels.specs.LabelPlaces.{labelsIn}
 use Rattle.reading.specs.SheetPlaces.{sheetAt}
 use Rattle.lines.specs.Said.{line-off, line-formed, line-drawn}
 use Rattle.lines.proofs.read_judged.Statement.{statement}
 use Rattle.lines.proofs.read_judged.Tie as tie
 
 returns : tie.Need-returns
-unfolding labelsIn sheetAt
+unfolding sheetAt
 returns c = line-off _ _ _ _ (c .before .before .steps-within .ensures) (not-true _ (c .if1 .taken))
 
 write-drawn-requires : tie.Need-write-drawn-requires
@@ -17,7 +16,7 @@ write-drawn-requires c κs =
     line-formed _ _ (read .before .before .before .before .args .out .now) _ (read .steps-within .ensures) (not-false _ (c .before .if1 .left))
 
 returns-2 : tie.Need-returns-2
-unfolding labelsIn sheetAt
+unfolding sheetAt
 returns-2 c =
     let drawn = c .before .before in
     let read = drawn .before .before .before .before in

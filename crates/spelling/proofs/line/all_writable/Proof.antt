@@ -4,7 +4,6 @@ use Prim.Native.Nat.{_-_}
 use native.Mathlib.Omega.{arith}
 use borrow.Author.Needs.{needs}
 use Rattle.shapes.specs.Steps.{stepIn}
-use Rattle.labels.specs.LabelPlaces.{labelsIn}
 use Rattle.reading.specs.SheetPlaces.{sheetAt}
 use Rattle.spelling.specs.StepsWritable.{WritableSoFar, steps-start, steps-stop, steps-go-on, steps-done}
 use Rattle.spelling.proofs.line.all_writable.Statement.{statement}
@@ -20,13 +19,13 @@ loop-holds : tie.Need-loop-holds Inv-loop μ-loop
 loop-holds c = steps-start (c .before .pre)
 
 returns : tie.Need-returns Inv-loop μ-loop
-unfolding stepIn sheetAt labelsIn
+unfolding stepIn sheetAt
 returns c =
     let l = c .before .before .before .before .before .before in
     steps-stop (l .before .before .pre) (l .loop .inv) (omega arith) (c .before .before .label-at .ensures) (c .before .writable .ensures) (c .if1 .taken)
 
 loop-again : tie.Need-loop-again Inv-loop μ-loop
-unfolding stepIn sheetAt labelsIn
+unfolding stepIn sheetAt
 loop-again c =
     let l = c .before .before .before .before .before .before in
     steps-go-on (l .before .before .pre) (l .loop .inv) (omega arith) (c .before .before .label-at .ensures) (c .before .writable .ensures) (c .if1 .left)
