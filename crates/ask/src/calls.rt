@@ -65,8 +65,8 @@ fn call(l: u8, s: &[u8]) -> bool {
         b'P' => plain_route(s),
         b'R' | b'W' => with_table(l, s),
         b'L' => label(s),
-        b'N' | b'V' => with_text(l, s),
-        b'U' => subscription_line(s),
+        b'N' | b'V' => with_bytes(l, s),
+        b'U' => write_subscription(s),
         _ => false,
     }
 }
@@ -264,7 +264,7 @@ fn label(s: &[u8]) -> bool {
 }
 
 // A line or a pattern's bytes, and room: the line read, or the pattern written as a line.
-fn with_text(l: u8, s: &[u8]) -> bool {
+fn with_bytes(l: u8, s: &[u8]) -> bool {
     let mut text = io::large_buffer();
     let m = input::bytes(&mut text);
     if !m.whole {
@@ -276,14 +276,14 @@ fn with_text(l: u8, s: &[u8]) -> bool {
         return false;
     }
     if l == b'N' {
-        read_line(s, &text[..m.count], &mut out[..room.count]);
+        read_line_to(s, &text[..m.count], &mut out[..room.count]);
     } else {
-        write_pattern(s, &text[..m.count], &mut out[..room.count]);
+        write_pattern_to(s, &text[..m.count], &mut out[..room.count]);
     }
     true
 }
 
-fn read_line(s: &[u8], line: &[u8], out: &mut [u8]) {
+fn read_line_to(s: &[u8], line: &[u8], out: &mut [u8]) {
     match hub::read_line(s, line, out) {
         Lined::Refused { number, place } => {
             output::number(number);
@@ -299,12 +299,12 @@ fn read_line(s: &[u8], line: &[u8], out: &mut [u8]) {
     output::bytes(out);
 }
 
-fn write_pattern(s: &[u8], p: &[u8], out: &mut [u8]) {
+fn write_pattern_to(s: &[u8], p: &[u8], out: &mut [u8]) {
     written(hub::write_pattern(s, p, out));
     output::bytes(out);
 }
 
-fn subscription_line(s: &[u8]) -> bool {
+fn write_subscription(s: &[u8]) -> bool {
     let Long::Is(i) = input::number() else {
         return false;
     };
@@ -313,11 +313,11 @@ fn subscription_line(s: &[u8]) -> bool {
     if !room.whole {
         return false;
     }
-    write_subscription(s, i, &mut out[..room.count]);
+    write_subscription_to(s, i, &mut out[..room.count]);
     true
 }
 
-fn write_subscription(s: &[u8], i: u64, out: &mut [u8]) {
+fn write_subscription_to(s: &[u8], i: u64, out: &mut [u8]) {
     written(hub::write_subscription(s, i, out));
     output::bytes(out);
 }

@@ -57,11 +57,11 @@ pub count-few : (n : ℕ) → n ≤ mostSteps → countOf n ≡ n
 unfolding countOf pick
 count-few n h = rw (le-leb n mostSteps h) refl
 
-pub count-most : (n : ℕ) → countOf n ≤ 17
+pub count-most : (n : ℕ) → countOf n ≤ suc mostSteps
 unfolding countOf pick
 count-most n = go (leb n mostSteps) refl
   where
-    go : (t : Bool) → leb n mostSteps ≡ t → pick t n (suc mostSteps) ≤ 17
+    go : (t : Bool) → leb n mostSteps ≡ t → pick t n (suc mostSteps) ≤ suc mostSteps
     go true e = omega (arith, leb-true n mostSteps e)
     go false e = omega arith
 

@@ -59,12 +59,12 @@ module _ (ls : List (List ℕ)) (line : List ℕ) where
     pub branched : branching (c .mode) ≡ true → c .depth ≤ length (stand .found)
     pub counts : c .count ≡ countOf (length (stand .found))
     pub knows : c .known ≡ every (knownDrawn ls) (stand .found)
-    pub places : length opens ≡ 17
+    pub places : length opens ≡ suc mostSteps
     pub room : length steps ≡ mostSteps
     pub whole : length (stand .found) ≤ mostSteps → Whole stand c opens steps
 
   -- before the first byte
-  pub reached-first : (opens : List ℕ) (steps : List Step) → length opens ≡ 17 → length steps ≡ mostSteps → Reached firstCourse opens steps
+  pub reached-first : (opens : List ℕ) (steps : List Step) → length opens ≡ suc mostSteps → length steps ≡ mostSteps → Reached firstCourse opens steps
   unfolding firstCourse start readAny modeOf countOf pick every stacked
   reached-first opens steps h k =
       record {

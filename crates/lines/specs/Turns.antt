@@ -1,5 +1,6 @@
 -- What one byte of a line does, as the code asks for it, and that this is the next stand of the definition.
 use Prim.Native.Nat.{ℕ}
+use Prim.Native.Char.{code}
 use mathlib.Core.Path.{_≡_, refl, ap, _∙_}
 use mathlib.Core.Bool.{Bool, true, false}
 use borrow.Author.Tests.{eqb-true}
@@ -19,33 +20,42 @@ use Rattle.lines.specs.declared.turns.Turn.the-variants as turn
 
 -- a name begins, with its axis
 unfoldable pub nameTurn : ℕ → ℕ → Turn
-nameTurn b axis = pick (eqb b 42) (turn.Names axis) (pick (barred b) turn.Stuck (turn.Names axis))
+nameTurn b axis = pick (eqb b (code "*")) (turn.Names axis) (pick (barred b) turn.Stuck (turn.Names axis))
 
 -- a slash leads on
 unfoldable pub slashTurn : ℕ → Mode → Turn
-slashTurn b m = pick (eqb b 47) (turn.Moves m) turn.Stuck
+slashTurn b m = pick (eqb b (code "/")) (turn.Moves m) turn.Stuck
 
--- a branch begins, or the last byte does its turn
+-- a branch begins, or it is the byte z, which does its own turn
 unfoldable pub branchTurn : ℕ → ℕ → Turn → Turn
-branchTurn b z x = pick (eqb b 47) (turn.Moves mode.Slash) (pick (eqb b 91) turn.Opens (pick (eqb b z) x turn.Stuck))
+branchTurn b z x = pick (eqb b (code "/")) (turn.Moves mode.Slash) (pick (eqb b (code "[")) turn.Opens (pick (eqb b z) x turn.Stuck))
 
 -- after a slash
 unfoldable pub secondTurn : ℕ → Turn
-secondTurn b = pick (eqb b 47) (turn.Moves mode.Slashes) (nameTurn b 0)
+secondTurn b = pick (eqb b (code "/")) (turn.Moves mode.Slashes) (nameTurn b 0)
 
 -- after an opening bracket
 unfoldable pub openedTurn : ℕ → Turn
-openedTurn b = pick (eqb b 47) (turn.Moves mode.Slash) (pick (eqb b 46) (turn.Moves mode.OpenedDot) (nameTurn b 0))
+openedTurn b = pick (eqb b (code "/")) (turn.Moves mode.Slash) (pick (eqb b (code ".")) (turn.Moves mode.OpenedDot) (nameTurn b 0))
 
 unfoldable pub turnAt : Mode → ℕ → Turn
-turnAt mode.Start b = branchTurn b 46 (turn.Moves mode.Dot)
+turnAt mode.Start b = branchTurn b (code ".") (turn.Moves mode.Dot)
 turnAt mode.Dot b = turn.Stuck
 turnAt mode.Slash b = secondTurn b
 turnAt mode.Slashes b = nameTurn b 1
 turnAt mode.Opened b = openedTurn b
 turnAt mode.OpenedDot b = slashTurn b mode.OpenedDotSlash
 turnAt mode.OpenedDotSlash b = slashTurn b mode.Slashes
-turnAt mode.Ended b = branchTurn b 93 turn.Closes
+turnAt mode.Ended b = branchTurn b (code "]") turn.Closes
+
+-- at the start and after a name, by the bytes as the code has them
+pub start-turn : (b : ℕ) → branchTurn b 46 (turn.Moves mode.Dot) ≡ turnAt mode.Start b
+unfolding turnAt
+start-turn b = refl
+
+pub ended-turn : (b : ℕ) → branchTurn b 93 turn.Closes ≡ turnAt mode.Ended b
+unfolding turnAt
+ended-turn b = refl
 
 -- ---- what the definition does then
 
@@ -93,39 +103,40 @@ module _ (b : ℕ) (c : Stand) where
   unfolding nameTurn nameOr act
   name-next axis otherwise e =
       let inner = act-pick (barred b) turn.Stuck (turn.Names axis) in
-      rw e (name-shape (eqb b 42) (barred b) _ _ ∙ ap (pick (eqb b 42) (nameOr (axisOf axis) b c stuck)) inner
-      ∙ act-pick (eqb b 42) (turn.Names axis) (pick (barred b) turn.Stuck (turn.Names axis)))
+      rw e (name-shape (eqb b (code "*")) (barred b) _ _ ∙ ap (pick (eqb b (code "*")) (nameOr (axisOf axis) b c stuck)) inner
+      ∙ act-pick (eqb b (code "*")) (turn.Names axis) (pick (barred b) turn.Stuck (turn.Names axis)))
 
   -- / stands for itself, where otherwise a name does
-  slash-first : (e : b ≡ 47) (a : Axis) (x : Next) → nameOr a b c x ≡ x
+  slash-first : (e : b ≡ code "/") (a : Axis) (x : Next) → nameOr a b c x ≡ x
   unfolding nameOr barred some ascii pick
   slash-first e a x = rw e refl
 
-  dot-first : (e : b ≡ 46) (a : Axis) (x : Next) → nameOr a b c x ≡ x
+  dot-first : (e : b ≡ code ".") (a : Axis) (x : Next) → nameOr a b c x ≡ x
   unfolding nameOr barred some ascii pick
   dot-first e a x = rw e refl
 
-  slash-next : (t : Bool) → eqb b 47 ≡ t → nameOr near b c (pick t (to (moved atSlashes c)) stuck) ≡ act (pick t (turn.Moves mode.Slashes) (nameTurn b 0)) b c
+  slash-next : (t : Bool) → eqb b (code "/") ≡ t
+      → nameOr near b c (pick t (to (moved atSlashes c)) stuck) ≡ act (pick t (turn.Moves mode.Slashes) (nameTurn b 0)) b c
   unfolding pick axisOf act modeOf
-  slash-next true e = slash-first (eqb-true b 47 e) near (to (moved atSlashes c))
+  slash-next true e = slash-first (eqb-true b (code "/") e) near (to (moved atSlashes c))
   slash-next false e = name-next 0 stuck refl
 
-  opened-next : (t u : Bool) → eqb b 47 ≡ t → eqb b 46 ≡ u
+  opened-next : (t u : Bool) → eqb b (code "/") ≡ t → eqb b (code ".") ≡ u
       → nameOr near b c (pick t (to (moved atSlash c)) (pick u (to (moved openedDot c)) stuck))
       ≡ act (pick t (turn.Moves mode.Slash) (pick u (turn.Moves mode.OpenedDot) (nameTurn b 0))) b c
   unfolding pick axisOf act modeOf
-  opened-next true u e f = slash-first (eqb-true b 47 e) near (to (moved atSlash c))
-  opened-next false true e f = dot-first (eqb-true b 46 f) near (to (moved openedDot c))
+  opened-next true u e f = slash-first (eqb-true b (code "/") e) near (to (moved atSlash c))
+  opened-next false true e f = dot-first (eqb-true b (code ".") f) near (to (moved openedDot c))
   opened-next false false e f = name-next 0 stuck refl
 
   -- what the code asks for is what follows
   pub turn-next : (m : Mode) → nextIn (modeOf m) b c ≡ act (turnAt m b) b c
   unfolding nextIn modeOf turnAt branchTurn slashTurn secondTurn openedTurn branchOr slashOr afterName act axisOf
-  turn-next mode.Start = act-picks (eqb b 47) (eqb b 91) (eqb b 46) (turn.Moves mode.Slash) turn.Opens (turn.Moves mode.Dot)
+  turn-next mode.Start = act-picks (eqb b (code "/")) (eqb b (code "[")) (eqb b (code ".")) (turn.Moves mode.Slash) turn.Opens (turn.Moves mode.Dot)
   turn-next mode.Dot = refl
-  turn-next mode.Slash = slash-next (eqb b 47) refl
+  turn-next mode.Slash = slash-next (eqb b (code "/")) refl
   turn-next mode.Slashes = name-next 1 stuck refl
-  turn-next mode.Opened = opened-next (eqb b 47) (eqb b 46) refl refl
-  turn-next mode.OpenedDot = act-pick (eqb b 47) (turn.Moves mode.OpenedDotSlash) turn.Stuck
-  turn-next mode.OpenedDotSlash = act-pick (eqb b 47) (turn.Moves mode.Slashes) turn.Stuck
-  turn-next mode.Ended = act-picks (eqb b 47) (eqb b 91) (eqb b 93) (turn.Moves mode.Slash) turn.Opens turn.Closes
+  turn-next mode.Opened = opened-next (eqb b (code "/")) (eqb b (code ".")) refl refl
+  turn-next mode.OpenedDot = act-pick (eqb b (code "/")) (turn.Moves mode.OpenedDotSlash) turn.Stuck
+  turn-next mode.OpenedDotSlash = act-pick (eqb b (code "/")) (turn.Moves mode.Slashes) turn.Stuck
+  turn-next mode.Ended = act-picks (eqb b (code "/")) (eqb b (code "[")) (eqb b (code "]")) (turn.Moves mode.Slash) turn.Opens turn.Closes

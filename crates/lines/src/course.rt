@@ -4,9 +4,10 @@ use crate::turns::Mode;
 use meaning::MOST_STEPS;
 use meaning::Step;
 use places::byte_at;
-ghost use Prim.Native.Nat.{_-_, _^_, _≤_, _<_};
+ghost use Prim.Native.Nat.{suc, _-_, _^_, _≤_, _<_};
 ghost use mathlib.Core.Path.{_≡_};
 ghost use lib.ListN.{set};
+ghost use Rattle.meaning.specs.Numbers.{mostSteps};
 ghost use Rattle.lines.specs.Courses.{firstCourse, movedCourse, openedCourse, closedCourse, counted, namedCourse};
 
 // The place of the next byte, what has just been read, how many brackets are open, the step that a branch would hang on, how many steps were found (at
@@ -54,7 +55,6 @@ fn keep(bytes: &mut [u8], at: usize, b: u8)
 {
     if at < bytes.len() {
         bytes[at] = b;
-        return;
     }
 }
 
@@ -92,8 +92,8 @@ pub fn closed_course(c: Course, opens: &[u8]) -> Course
 
 // One step more; those after the seventeenth are not counted.
 fn one_more(count: usize) -> usize
-    requires { ⌜ count ≤ 17 ⌝ }
-    ensures { λ r. ⌜ (r ≡ counted count) × (r ≤ 17) ⌝ }
+    requires { ⌜ count ≤ suc mostSteps ⌝ }
+    ensures { λ r. ⌜ (r ≡ counted count) × (r ≤ suc mostSteps) ⌝ }
 {
     if count <= MOST_STEPS {
         return count + 1;
@@ -114,7 +114,7 @@ pub fn step_found(c: Course, axis: u8, n: Name) -> Step
 
 // A step is found.
 pub fn named_course(c: Course, n: Name) -> Course
-    requires { ⌜ c .count ≤ 17 ⌝ }
+    requires { ⌜ c .count ≤ suc mostSteps ⌝ }
     ensures { λ r. ⌜ r ≡ namedCourse c n ⌝ }
 {
     let count = one_more(c.count);

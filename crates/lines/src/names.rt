@@ -14,7 +14,7 @@ pub struct Name {
     pub known: bool,
 }
 
-// Where a label ends of which a byte stands before this place.
+// Where a label ends whose first byte stands just before this place.
 fn label_end(line: &[u8], from: usize) -> usize
     requires { ⌜ from ≤ length (now line) ⌝ }
     ensures { λ r. ⌜ (r ≡ from + labelLong (drop from (now (line .entry)))) × (r ≤ length (now (line .entry))) ⌝ }

@@ -22,7 +22,7 @@ ghost use Rattle.lines.specs.Found.{offLine, soundLine, FoundIs};
 ghost use Rattle.lines.specs.Ends.{mayEndAt};
 
 // As many brackets as can be open before a seventeenth step is found.
-const MOST_OPEN: usize = 17;
+const MOST_OPEN: usize = MOST_STEPS + 1;
 
 // What a line gives: the place of its first fault; or, where it is sound, whether every label is known, and its steps, which
 // are whole where 16 or fewer are counted.

@@ -47,9 +47,9 @@ fn slash_turn(b: u8, mode: Mode) -> Turn
     Turn::Stuck
 }
 
-// A branch begins, in brackets or without; or the last byte does its turn.
-fn branch_turn(b: u8, last: u8, turn: Turn) -> Turn
-    ensures { λ r. ⌜ r ≡ branchTurn b last turn ⌝ }
+// A branch begins, in brackets or without; or it is this other byte, which does its own turn.
+fn branch_turn(b: u8, other: u8, turn: Turn) -> Turn
+    ensures { λ r. ⌜ r ≡ branchTurn b other turn ⌝ }
 {
     if b == b'/' {
         return Turn::Moves(Mode::Slash);
@@ -57,7 +57,7 @@ fn branch_turn(b: u8, last: u8, turn: Turn) -> Turn
     if b == b'[' {
         return Turn::Opens;
     }
-    if b == last {
+    if b == other {
         return turn;
     }
     Turn::Stuck

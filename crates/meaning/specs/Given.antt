@@ -1,6 +1,6 @@
 -- What is given back: the number and the values. For each answer that is an enum, the paper's number and values in each
--- case: a refusal gives its number and zeros (13 the place of the fault), and 0 comes with the values. Whether it is a refusal is kept beside them, so that
--- a refusal with the number 0 is never taken for an answer.
+-- case: a refusal gives its number and zeros (13 the place of the fault), and 0 comes with the values. Whether it is a
+-- refusal is kept beside them, so that a refusal with the number 0 is never taken for an answer.
 use Prim.Native.Nat.{ℕ}
 use mathlib.Core.Path.{_≡_}
 use mathlib.Core.Bool.{Bool, true, false, not}

@@ -1,12 +1,11 @@
 -- `lines::turns::turn_at` meets its contract.
 use borrow.Author.Needs.{needs}
-use Rattle.lines.specs.Turns.{turnAt}
+use Rattle.lines.specs.Turns.{turnAt, start-turn, ended-turn}
 use Rattle.lines.proofs.turns.turn_at.Statement.{statement}
 use Rattle.lines.proofs.turns.turn_at.Tie as tie
 
 returns : tie.Need-returns
-unfolding turnAt
-returns c = cc
+returns c = cc (start-turn (c .before .before .before .args .b))
 
 returns-2 : tie.Need-returns-2
 unfolding turnAt
@@ -33,8 +32,7 @@ unfolding turnAt
 returns-7 c = cc
 
 returns-8 : tie.Need-returns-8
-unfolding turnAt
-returns-8 c = cc
+returns-8 c = cc (ended-turn (c .before .before .before .args .b))
 
 pub turn-at-spec : {M : Type 1} → statement M
 turn-at-spec =
