@@ -8,9 +8,9 @@ use borrow.Author.Tests.{ne-eqb}
 use lib.Dec.{eqb}
 use lib.ListN.{length}
 use Rattle.meaning.specs.Lines.{allClosed, mayEnd}
-use Rattle.lines.specs.declared.turns.Mode.{Mode}
-use Rattle.lines.specs.declared.turns.Mode.the-variants as mode
-use Rattle.lines.specs.Turns.{modeOf}
+use Rattle.turns.specs.declared.Mode.{Mode}
+use Rattle.turns.specs.declared.Mode.the-variants as mode
+use Rattle.turns.specs.Turns.{modeOf}
 
 unfoldable pub mayEndAt : Mode → ℕ → Bool
 mayEndAt mode.Start n = false

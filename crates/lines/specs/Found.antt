@@ -14,7 +14,7 @@ use Rattle.meaning.specs.LineCalls.{knownDrawn, numberedStep}
 use Rattle.shapes.specs.Shapes.{stepsIn, noSteps}
 use Rattle.shapes.specs.declared.Pattern.{Pattern}
 use Rattle.meaning.specs.declared.Step.{Step}
-use Rattle.lines.specs.declared.course.Course.{Course}
+use Rattle.turns.specs.declared.course.Course.{Course}
 use Rattle.lines.specs.declared.steps.Found.{Found}
 
 -- how many steps are counted: 17 stands for all that are more than 16

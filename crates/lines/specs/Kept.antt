@@ -14,7 +14,7 @@ use Rattle.base.specs.Lists.{some}
 use Rattle.meaning.specs.Numbers.{mostSteps}
 use Rattle.meaning.specs.Sections.{sameLabel}
 use Rattle.meaning.specs.LineCalls.{numberFrom}
-use Rattle.lines.specs.Courses.{counted}
+use Rattle.turns.specs.Courses.{counted}
 use Rattle.lines.specs.Found.{countOf}
 
 -- ---- a stack of so many in an array, the last one first

@@ -1,7 +1,3 @@
-pub mod Turns
-pub mod FittingTurns
-pub mod Names
-pub mod Courses
 pub mod Ends
 pub mod Found
 pub mod Kept

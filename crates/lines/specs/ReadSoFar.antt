@@ -24,16 +24,16 @@ use Rattle.meaning.specs.Lines.{offAt, draws, followed, mayEnd, readFrom, readA
 use Rattle.meaning.specs.LineCalls.{numberFrom, nameNumber, isKnown, knownDrawn, numberedStep}
 use Rattle.meaning.specs.declared.Step.{Step}
 use Rattle.laws.specs.Bridge.{axis-read}
-use Rattle.lines.specs.declared.turns.Mode.{Mode}
-use Rattle.lines.specs.declared.turns.Mode.the-variants as mode
-use Rattle.lines.specs.declared.turns.Turn.{Turn}
-use Rattle.lines.specs.declared.turns.Turn.the-variants as turn
-use Rattle.lines.specs.declared.names.Name.{Name}
-use Rattle.lines.specs.declared.course.Course.{Course}
-use Rattle.lines.specs.Turns.{turnAt, modeOf, act, turn-next}
-use Rattle.lines.specs.FittingTurns.{branching, fitting, turn-fits}
-use Rattle.lines.specs.Names.{labelLong, labelEnd, textFrom, nameAt, label-read}
-use Rattle.lines.specs.Courses.{firstCourse, movedCourse, openedCourse, closedCourse, counted, namedCourse}
+use Rattle.turns.specs.declared.Mode.{Mode}
+use Rattle.turns.specs.declared.Mode.the-variants as mode
+use Rattle.turns.specs.declared.Turn.{Turn}
+use Rattle.turns.specs.declared.Turn.the-variants as turn
+use Rattle.turns.specs.declared.names.Name.{Name}
+use Rattle.turns.specs.declared.course.Course.{Course}
+use Rattle.turns.specs.Turns.{turnAt, modeOf, act, turn-next}
+use Rattle.turns.specs.FittingTurns.{branching, fitting, turn-fits}
+use Rattle.turns.specs.Names.{labelLong, labelEnd, textFrom, nameAt, label-read}
+use Rattle.turns.specs.Courses.{firstCourse, movedCourse, openedCourse, closedCourse, counted, namedCourse}
 use Rattle.lines.specs.Found.{countOf, StepsAre, offLine, soundLine, FoundIs}
 use Rattle.lines.specs.Ends.{mayEndAt, may-end}
 use Rattle.lines.specs.declared.steps.Found.{Found}

@@ -1,7 +1,4 @@
 // Lines of the notation: a line read with a sheet's labels, and its steps written as a pattern.
-mod turns; // turns.rt: what one byte does
-mod names; // names.rt: a name, from its first byte to its end
-mod course; // course.rt: how far a line has been read
 mod steps; // steps.rt: all bytes, the steps of a line
 mod limit; // limit.rt: the limit of 1,024 bytes
 mod drawn; // drawn.rt: the steps, written as a pattern

@@ -7,15 +7,15 @@ use lib.Seq.{set-out}
 use native.Mathlib.Omega.{arith}
 use borrow.Author.Needs.{needs}
 use Rattle.labels.specs.LabelPlaces.{labelsIn}
-use Rattle.lines.specs.declared.turns.Turn.the-variants as turn
-use Rattle.lines.specs.declared.names.Name.{Name}
-use Rattle.lines.specs.Turns.{turnAt}
-use Rattle.lines.specs.Names.{name-further}
+use Rattle.turns.specs.declared.Turn.the-variants as turn
+use Rattle.turns.specs.declared.names.Name.{Name}
+use Rattle.turns.specs.Turns.{turnAt}
+use Rattle.turns.specs.Names.{name-further}
 use Rattle.shapes.specs.Shapes.{noSteps}
 use Rattle.shapes.specs.declared.Pattern.{Pattern}
-use Rattle.lines.specs.declared.course.Course.{Course}
+use Rattle.turns.specs.declared.course.Course.{Course}
 use Rattle.lines.specs.Kept.{count-most}
-use Rattle.lines.specs.Courses.{movedCourse, openedCourse, closedCourse, namedCourse}
+use Rattle.turns.specs.Courses.{movedCourse, openedCourse, closedCourse, namedCourse}
 use Rattle.lines.specs.ReadSoFar.{Reached, reached-first, reached-stuck, reached-moves, reached-opens, reached-unopened}
 use Rattle.lines.specs.ReadSoFar.{reached-closes, reached-names, reached-end, reached-off}
 use Rattle.lines.proofs.steps.steps_of.Statement.{statement}

@@ -1,0 +1,4 @@
+pub mod Turns
+pub mod FittingTurns
+pub mod Names
+pub mod Courses
