@@ -53,6 +53,7 @@ use Rattle.laws.specs.Labels.{document-distinct}
 use Rattle.laws.specs.LabelsStand.{StandsIn, sheet-label-stands, document-label-stands}
 use Rattle.laws.specs.BytesDecide.{same-number, read-by-bytes}
 use Rattle.laws.specs.JudgingGives.{document-rises}
+use Rattle.laws.specs.SoundPatterns.{SoundPattern}
 use Rattle.laws.specs.RoundTrip.{sheet-read}
 use Rattle.laws.specs.MergeCovers.{merge-covers-first, merge-covers-second}
 use Rattle.laws.specs.InOneEntry.{fair-just-one}
@@ -67,8 +68,7 @@ use Rattle.laws.specs.LineLabels.{labels-writable, number-of-label}
 use Rattle.laws.specs.LineJudged.{line-accepted, accepted-line, refused-place, place-refused}
 use Rattle.laws.specs.LineForest.{drawnForest, drawn-steps, drawn-sound, drawn-unknown, drawn-many, drawn-nears, drawn-written}
 use Rattle.laws.specs.LineAnswers.{LineWrites, LineRefused, sheet-refused, other-refused, refused-other, line-writes, line-refused}
-use Rattle.laws.specs.LineReadsBack.{read-only-pattern, pattern-is-line, pattern-line-short, pattern-reads-back}
-use Rattle.laws.specs.LineReadsBack.{subscription-is-line, subscription-line-short, subscription-reads-back}
+use Rattle.laws.specs.LineReadsBack.{ReadsBack, read-only-pattern, text-short, text-reads-back, pattern-reads-back, subscription-reads-back}
 use Rattle.laws.specs.Cases as cases
 
 -- ======== 1. "Every call may be given arbitrary bytes and numbers. It ends, reads and writes only inside what it was lent, and
@@ -478,29 +478,24 @@ module _ (s left : List ℕ) (sh : Sheet) (was-read : sheet s ≡ read sh left) 
   unfolding subscriptionWriting textWriting judged pick
   writing-subscription i there = rw (was-read, there)
 
--- ---- what is written is a line of at most 1,024 bytes, and reads back as the same steps
+-- ---- what is written is a line, and reads back as the same steps
 
--- the text is such a line, and what is written of it is these bytes
-pub record ReadsBack (s text bs : List ℕ) : Type 0 where
-  pub drawing : Sketch
-  pub line : Line text drawing
-  pub short : length text ≤ longestLine
-  pub back : LineWrites s text bs
+module _ (s left : List ℕ) (sh : Sheet) (was-read : sheet s ≡ read sh left) (f : Forest) (sound : SoundPattern (length (sh .labels)) f) where
+  -- 1,024 bytes are enough for any 16 steps: the text of any pattern that passes the check has no more
+  pub enough-bytes : length (patternText (sh .labels) f) ≤ longestLine
+  enough-bytes = text-short s left sh was-read f sound
+
+  -- whose labels are writable: the text is such a line, and what is written of it is the pattern's bytes
+  pub text-back : every (stepWritable (sh .labels)) (stepsOf f) ≡ true → ReadsBack s (patternText (sh .labels) f) (patternBytes f)
+  text-back = text-reads-back s left sh was-read f sound
 
 -- so it is with what the calls leave in their output, as many bytes as they say: a pattern's bytes come back
 pub pattern-back : (s p found : List ℕ) (g : Given ℕ) (out : List ℕ) → WritePatternGives s p found g out → g .number ≡ 0 → ReadsBack s (take (g .values) out) p
-pattern-back s p found g out r h =
-    let text = take (g .values) out in
-    let w = answers.write-pattern-0 s p found g out r h in
-    let l = pattern-is-line s p text w in
-    record { drawing = l .0; line = l .1; short = pattern-line-short s p text w; back = pattern-reads-back s p text w }
+pattern-back s p found g out r h = pattern-reads-back s p _ (answers.write-pattern-0 s p found g out r h)
 
 -- and a subscription's steps
 pub subscription-back : (s left : List ℕ) (sh : Sheet) → sheet s ≡ read sh left
     → (i : ℕ) (found : List ℕ) (g : Given ℕ) (out : List ℕ) → WriteSubscriptionGives s i found g out → g .number ≡ 0
     → ReadsBack s (take (g .values) out) (patternBytes (subscription sh i))
 subscription-back s left sh was-read i found g out r h =
-    let text = take (g .values) out in
-    let w = answers.write-subscription-0 s i found g out r h in
-    let l = subscription-is-line s i text w in
-    record { drawing = l .0; line = l .1; short = subscription-line-short s i text w; back = subscription-reads-back s i text sh left was-read w }
+    subscription-reads-back s left sh was-read i _ (answers.write-subscription-0 s i found g out r h)

@@ -1,5 +1,5 @@
--- What is written of a pattern, by its bytes or as a subscription, is a line of at most 1,024 bytes that reads back as the same
--- pattern.
+-- The text of a sound pattern whose labels can stand in a line is a line of at most 1,024 bytes that reads back as the same pattern;
+-- and so is what is written of a pattern, by its bytes or as a subscription.
 use Prim.Native.Nat.{ℕ, _≤_}
 use mathlib.Core.Path.{_≡_, refl, sym, ap, _∙_, subst}
 use mathlib.Core.Bool.{Bool, true, false}
@@ -50,16 +50,6 @@ module _ {A B : Type 0} where
   judged-written (read a left) next h = (a, left, refl, h)
   judged-written (refused n) next h = absurd (refuses-not-writes h)
 
--- these bytes are the text of a sound pattern whose labels can stand in a line, with the labels of a sheet that was read
-record Text (s text : List ℕ) : Type 0 where
-  sh : Sheet
-  left : List ℕ
-  reads : sheet s ≡ read sh left
-  pattern : Forest
-  sound : SoundPattern (length (sh .labels)) pattern
-  fits : every (stepWritable (sh .labels)) (stepsOf pattern) ≡ true
-  stands : patternText (sh .labels) pattern ≡ text
-
 -- the bytes of a pattern, and no more, are the bytes of a sound one
 only-pattern-read : (known : ℕ) (p : List ℕ) (f : Forest) (left : List ℕ) → onlyPattern known p ≡ read f left → SoundPattern known f × (p ≡ patternBytes f)
 unfolding onlyPattern
@@ -76,89 +66,67 @@ unfolding onlyPattern _>>_ go-on end give
 read-only-pattern known f sound =
     read-bind (pattern known) _ (patternBytes f) f [] (ap (pattern known) (sym (append-nil (patternBytes f))) ∙ read-pattern known f [] sound)
 
--- what is written of a pattern's bytes is such a text
-pattern-text : (s p text : List ℕ) → patternWriting s p ≡ writes tt text → (t : Text s text) × (p ≡ patternBytes (t .pattern))
+-- ---- the text of a sound pattern
+
+-- it is a line of at most 1,024 bytes, and what is written of that line is these bytes
+pub record ReadsBack (s text bs : List ℕ) : Type 0 where
+  pub drawing : Sketch
+  pub line : Line text drawing
+  pub short : length text ≤ longestLine
+  pub back : LineWrites s text bs
+
+module _ (s left : List ℕ) (sh : Sheet) (was-read : sheet s ≡ read sh left) (f : Forest) (sound : SoundPattern (length (sh .labels)) f) where
+  -- with the labels of a sheet that was read there is room for it in a line
+  pub text-short : length (patternText (sh .labels) f) ≤ longestLine
+  text-short = pattern-room (sh .labels) (sheet-short s sh left was-read) f (sound .few)
+
+  -- what a line draws of the pattern is written as the pattern's bytes
+  drawn-back : drawnWriting (sh .labels) (stepsDrawn (sketched (sh .labels) f)) ≡ writes tt (patternBytes f)
+  drawn-back =
+      let ls = sh .labels in
+      let t = sketched ls f in
+      let back = forest-back ls f (sheet-distinct s left sh was-read) (sound .within) in
+      drawn-written ls t (names-known ls f (sound .within))
+      (omega (arith, drawn-size ls t, ap size back, sound .few)) (omega (arith, ap nears back, sound .lone))
+      ∙ ap (λ g. writes tt (patternBytes g)) back
+
+  -- so where its labels can stand in a line, the text reads back as the pattern
+  pub text-reads-back : every (stepWritable (sh .labels)) (stepsOf f) ≡ true → ReadsBack s (patternText (sh .labels) f) (patternBytes f)
+  text-reads-back fits =
+      let ls = sh .labels in
+      let line = written-line ls (sheet-sized s sh left was-read) f (sound .within) fits in
+      record {
+        drawing = sketched ls f;
+        line = line;
+        short = text-short;
+        back = line-writes s left sh was-read (patternText ls f) (sketched ls f) line text-short (patternBytes f) drawn-back;
+      }
+
+-- ---- what is written
+
+-- of a pattern's bytes it reads back as the same bytes
+pub pattern-reads-back : (s p text : List ℕ) → patternWriting s p ≡ writes tt text → ReadsBack s text p
 unfolding patternWriting textWriting
-pattern-text s p text h =
+pattern-reads-back s p text h =
     let on = judged-written (sheet s) _ h in
     let ls = on .0 .labels in
     let judged = judged-written (onlyPattern (length ls) p) _ (on .3) in
     let f = judged .0 in
     let r = only-pattern-read (length ls) p f (judged .1) (judged .2) in
     let made = test-written (every (stepWritable ls) (stepsOf f)) _ _ (judged .3) in
-    (record { sh = on .0; left = on .1; reads = on .2; pattern = f; sound = r .0; fits = made .0; stands = cc }, r .1)
+    let same : patternText ls f ≡ text = cc in
+    let back = text-reads-back s (on .1) (on .0) (on .2) f (r .0) (made .0) in
+    subst (λ t. ReadsBack s t p) same (subst (ReadsBack s (patternText ls f)) (sym (r .1)) back)
 
--- and so is what is written of a subscription
-subscription-text : (s : List ℕ) (i : ℕ) (text : List ℕ) → subscriptionWriting s i ≡ writes tt text
-    → (t : Text s text) × (t .pattern ≡ subscription (t .sh) i)
-unfolding subscriptionWriting textWriting isSubscription subscription
-subscription-text s i text h =
-    let on = judged-written (sheet s) _ h in
-    let sh = on .0 in
-    let there = test-written (isSubscription sh i) _ _ (on .3) in
-    let f = subscription sh i in
-    let made = test-written (every (stepWritable (sh .labels)) (stepsOf f)) _ _ (there .1) in
-    let sound = sheet-read s (on .1) sh (on .2) .sound f (place-in (sh .patterns) i none (ltb-true i (length (sh .patterns)) (there .0))) in
-    (record { sh = sh; left = on .1; reads = on .2; pattern = f; sound = sound; fits = made .0; stands = cc }, refl)
-
--- ---- such a text is a line, and short
-
--- it is a line that draws its pattern
-text-line : {s text : List ℕ} (t : Text s text) → Line text (sketched (t .sh .labels) (t .pattern))
-text-line {s} {text} t =
-    let ls = t .sh .labels in
-    subst (λ (bs : List ℕ). Line bs (sketched ls (t .pattern))) (t .stands)
-    (written-line ls (sheet-sized s (t .sh) (t .left) (t .reads)) (t .pattern) (t .sound .within) (t .fits))
-
--- and there is room for it
-text-short : {s text : List ℕ} (t : Text s text) → length text ≤ longestLine
-text-short {s} {text} t =
-    omega (arith, ap length (t .stands), pattern-room (t .sh .labels) (sheet-short s (t .sh) (t .left) (t .reads)) (t .pattern) (t .sound .few))
-
--- what is written of a pattern's bytes is a line
-pub pattern-is-line : (s p text : List ℕ) → patternWriting s p ≡ writes tt text → (t : Sketch) × Line text t
-pattern-is-line s p text h = (_, text-line (pattern-text s p text h .0))
-
--- of at most 1,024 bytes
-pub pattern-line-short : (s p text : List ℕ) → patternWriting s p ≡ writes tt text → length text ≤ longestLine
-pattern-line-short s p text h = text-short (pattern-text s p text h .0)
-
--- what is written of a subscription is a line
-pub subscription-is-line : (s : List ℕ) (i : ℕ) (text : List ℕ) → subscriptionWriting s i ≡ writes tt text → (t : Sketch) × Line text t
-subscription-is-line s i text h = (_, text-line (subscription-text s i text h .0))
-
--- of at most 1,024 bytes
-pub subscription-line-short : (s : List ℕ) (i : ℕ) (text : List ℕ) → subscriptionWriting s i ≡ writes tt text → length text ≤ longestLine
-subscription-line-short s i text h = text-short (subscription-text s i text h .0)
-
--- ---- and it reads back
-
--- what a line draws of a sound pattern is written as the pattern's bytes
-drawn-back : (s left : List ℕ) (sh : Sheet) → sheet s ≡ read sh left → (f : Forest) → SoundPattern (length (sh .labels)) f
-    → drawnWriting (sh .labels) (stepsDrawn (sketched (sh .labels) f)) ≡ writes tt (patternBytes f)
-drawn-back s left sh h f sound =
+-- of a subscription it reads back as its steps
+pub subscription-reads-back : (s left : List ℕ) (sh : Sheet) → sheet s ≡ read sh left → (i : ℕ) (text : List ℕ)
+    → subscriptionWriting s i ≡ writes tt text → ReadsBack s text (patternBytes (subscription sh i))
+unfolding subscriptionWriting textWriting isSubscription subscription judged
+subscription-reads-back s left sh was-read i text h =
     let ls = sh .labels in
-    let t = sketched ls f in
-    let back = forest-back ls f (sheet-distinct s left sh h) (sound .within) in
-    drawn-written ls t (names-known ls f (sound .within))
-    (omega (arith, drawn-size ls t, ap size back, sound .few)) (omega (arith, ap nears back, sound .lone))
-    ∙ ap (λ g. writes tt (patternBytes g)) back
-
--- such a text reads back as its pattern
-text-reads-back : (s text : List ℕ) (t : Text s text) → LineWrites s text (patternBytes (t .pattern))
-text-reads-back s text t =
-    line-writes s (t .left) (t .sh) (t .reads) text _ (text-line t) (text-short t) _ (drawn-back s (t .left) (t .sh) (t .reads) (t .pattern) (t .sound))
-
--- what is written of a pattern's bytes reads back as the same bytes
-pub pattern-reads-back : (s p text : List ℕ) → patternWriting s p ≡ writes tt text → LineWrites s text p
-pattern-reads-back s p text h =
-    let r = pattern-text s p text h in
-    rw (r .1) (text-reads-back s text (r .0))
-
--- what is written of a subscription reads back as its steps
-pub subscription-reads-back : (s : List ℕ) (i : ℕ) (text : List ℕ) (sh : Sheet) (left : List ℕ) → sheet s ≡ read sh left
-    → subscriptionWriting s i ≡ writes tt text → LineWrites s text (patternBytes (subscription sh i))
-subscription-reads-back s i text sh left h w =
-    let r = subscription-text s i text w in
-    let same : r .0 .sh ≡ sh = cc in
-    subst (λ f. LineWrites s text (patternBytes f)) (r .1 ∙ ap (λ x. subscription x i) same) (text-reads-back s text (r .0))
+    let f = subscription sh i in
+    let there = test-written (isSubscription sh i) _ _ (rw was-read at h) in
+    let made = test-written (every (stepWritable ls) (stepsOf f)) _ _ (there .1) in
+    let same : patternText ls f ≡ text = cc in
+    let sound = sheet-read s left sh was-read .sound f (place-in (sh .patterns) i none (ltb-true i (length (sh .patterns)) (there .0))) in
+    subst (λ t. ReadsBack s t (patternBytes f)) same (text-reads-back s left sh was-read f sound (made .0))
