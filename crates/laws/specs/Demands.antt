@@ -7,12 +7,12 @@ use mathlib.Core.Path.{_≡_, refl, sym, ap, _∙_}
 use mathlib.Core.Logic.{_⊎_, inl, inr, _↔_}
 use mathlib.Core.Bool.{Bool, true, false}
 use mathlib.Core.List.{List, [], map, List·Memᴰ}
-use borrow.Author.Tests.{ltb-true, lt-ltb}
+use borrow.Author.Tests.{ltb-true, lt-ltb, le-leb, lt-leb}
 use lib.ListN.{length, take}
 use Rattle.base.specs.Bools.{not-both}
 use Rattle.base.specs.Choice.{pick}
 use Rattle.base.specs.Lists.{every}
-use Rattle.meaning.specs.Numbers.{countOutside, secondNear, notThere, notALine, labelUnknown, notWritable, mostSteps, longestLine}
+use Rattle.meaning.specs.Numbers.{countOutside, secondNear, noRoom, notThere, notALine, labelUnknown, notWritable, mostSteps, longestLine}
 use Rattle.meaning.specs.Reader.{read, refused, Went, Reader}
 use Rattle.meaning.specs.Forest.{Forest, stepsOf}
 use Rattle.meaning.specs.Sections.{Sheet, sheet, Document, document, Node, Entry}
@@ -26,7 +26,7 @@ use Rattle.meaning.specs.LabelBytes.{labelsOf, isLabel, labelAt}
 use Rattle.meaning.specs.ByBytes.{Satisfied}
 use Rattle.meaning.specs.Written.{patternBytes, sheetBytes, tableBytes}
 use Rattle.meaning.specs.Calls.{judged, fairTable, threeJudged, isSubscription, subscription, sheetNumber, documentNumber, tableNumber}
-use Rattle.meaning.specs.Calls.{matchesAnswer, coversAnswer, refuses, writes, withRoom, after, mergeWriting, mergeAnswer}
+use Rattle.meaning.specs.Calls.{matchesAnswer, coversAnswer, Writing, refuses, writes, withRoom, after, mergeWriting, mergeAnswer}
 use Rattle.meaning.specs.Calls.{buildWriting, buildAnswer, plainAnswer, tableAnswer, wantedAnswer, labelNumber, labelPart}
 use Rattle.meaning.specs.PatternText.{patternText}
 use Rattle.meaning.specs.Notation.{writable, called, Sketch, Line, Drawn, drawnSize, stepsDrawn, RefusedAt}
@@ -41,6 +41,7 @@ use Rattle.meaning.specs.Promises.{ReadLineGives, WritePatternGives, WriteSubsc
 use Rattle.meaning.specs.declared.Asked.{Asked}
 use Rattle.meaning.specs.declared.Asked.the-variants as asked
 use Rattle.meaning.specs.declared.Lined.the-variants as lined
+use Rattle.meaning.specs.declared.Output.the-variants as output
 use Rattle.meaning.specs.declared.Routed.the-variants as routed
 use Rattle.meaning.specs.declared.Tabled.the-variants as tabled
 use Rattle.laws.specs.Refusals.{NotZero, Numbered, sheet-numbered, document-numbered, fair-table-numbered, asking-numbered}
@@ -467,7 +468,27 @@ module _ (s left : List ℕ) (sh : Sheet) (was-read : sheet s ≡ read sh left) 
       read-only-pattern (length (sh .labels)) _ (drawn-sound (sh .labels) t few lone),
     )
 
-  -- ---- steps are written as text in 01's form, unless a label is not writable: 15
+-- ---- steps are written as text in 01's form, or refused. A sheet that is refused comes first
+pub pattern-after-sheet : (s p : List ℕ) (n : ℕ) → sheet s ≡ refused n → patternWriting s p ≡ refuses n
+unfolding patternWriting judged
+pattern-after-sheet s p n h = rw h
+
+pub subscription-after-sheet : (s : List ℕ) (i n : ℕ) → sheet s ≡ refused n → subscriptionWriting s i ≡ refuses n
+unfolding subscriptionWriting judged
+subscription-after-sheet s i n h = rw h
+
+module _ (s left : List ℕ) (sh : Sheet) (was-read : sheet s ≡ read sh left) where
+  -- then a pattern whose bytes are refused, with their number
+  pub writing-bytes-refused : (p : List ℕ) (n : ℕ) → onlyPattern (length (sh .labels)) p ≡ refused n → patternWriting s p ≡ refuses n
+  unfolding patternWriting judged
+  writing-bytes-refused p n h = rw (was-read, h)
+
+  -- or the number of a subscription that doesn't exist: 11
+  pub writing-not-there : (i : ℕ) → isSubscription sh i ≡ false → subscriptionWriting s i ≡ refuses notThere
+  unfolding subscriptionWriting judged pick
+  writing-not-there i there = rw (was-read, there)
+
+  -- then 15, where a label is not writable; otherwise the text is to be written
   pub writing-pattern : (p rest : List ℕ) (f : Forest) → onlyPattern (length (sh .labels)) p ≡ read f rest
       → patternWriting s p ≡ pick (every (stepWritable (sh .labels)) (stepsOf f)) (writes tt (patternText (sh .labels) f)) (refuses notWritable)
   unfolding patternWriting textWriting judged
@@ -477,6 +498,22 @@ module _ (s left : List ℕ) (sh : Sheet) (was-read : sheet s ≡ read sh left) 
       subscriptionWriting s i ≡ pick (every (stepWritable (sh .labels)) (stepsOf f)) (writes tt (patternText (sh .labels) f)) (refuses notWritable))
   unfolding subscriptionWriting textWriting judged pick
   writing-subscription i there = rw (was-read, there)
+
+-- room is judged last: what is refused before is refused by that number, whatever the output
+module _ (w : Writing (Unit {0})) (out : List ℕ) where
+  pub refused-before-room : (n : ℕ) → w ≡ refuses n → outputAnswer (withRoom out w) ≡ output.Refused n
+  unfolding withRoom outputAnswer
+  refused-before-room n h = rw h
+
+  -- the text is written where there is room for it
+  pub written-with-room : (text : List ℕ) → w ≡ writes tt text → length text ≤ length out → outputAnswer (withRoom out w) ≡ output.Wrote (length text)
+  unfolding withRoom outputAnswer pick
+  written-with-room text h room = rw (h, le-leb (length text) (length out) room)
+
+  -- and otherwise 10
+  pub writing-no-room : (text : List ℕ) → w ≡ writes tt text → length out < length text → outputAnswer (withRoom out w) ≡ output.Refused noRoom
+  unfolding withRoom outputAnswer pick
+  writing-no-room text h short = rw (h, lt-leb (length text) (length out) short)
 
 -- ---- what is written is a line, and reads back as the same steps
 
