@@ -65,7 +65,8 @@ use Rattle.laws.specs.Rising.{Rising}
 use Rattle.laws.specs.WantedRoutes.{routeNotZero, wanted-by-table, wanted-by, answer-wanted, tried-no-more, tried-all}
 use Rattle.laws.specs.MergeNears.{nears}
 use Rattle.laws.specs.LineMeaning.{one-sketch}
-use Rattle.laws.specs.LineLabels.{labels-writable, number-of-label}
+use Rattle.laws.specs.NameNumbers.{number-of-label}
+use Rattle.laws.specs.LineLabels.{labels-writable}
 use Rattle.laws.specs.LineJudged.{line-accepted, accepted-line, refused-place, place-refused}
 use Rattle.laws.specs.LineForest.{drawnForest, drawn-steps, drawn-sound, drawn-unknown, drawn-many, drawn-nears, drawn-written}
 use Rattle.laws.specs.LineAnswers.{LineWrites, LineRefused, sheet-refused, other-refused, refused-other, line-writes, line-refused}

@@ -48,6 +48,7 @@ pub mod LabelsStand
 pub mod TextRoom
 pub mod BytesDecide
 -- lines of the notation
+pub mod NameNumbers
 pub mod LineComplete
 pub mod LineMeaning
 pub mod LineLabels

@@ -2,8 +2,8 @@
 -- written of them is that pattern's bytes, unless they are refused.
 use Prim.Native.Nat.{ℕ, suc, _+_, _≤_, _<_}
 use mathlib.Core.Path.{_≡_, refl, ap, ap₂, _∙_}
-use mathlib.Core.Bool.{Bool, true, false}
-use mathlib.Core.List.{List, [], _∷_, _++_, flatMap, map, map-append}
+use mathlib.Core.Bool.{true, false}
+use mathlib.Core.List.{List, _∷_, _++_, flatMap, map, map-append}
 use native.Mathlib.Omega.{arith}
 use borrow.Author.Tests.{le-leb, lt-leb}
 use lib.ListN.{length}
@@ -11,16 +11,16 @@ use Rattle.base.specs.Choice.{pick}
 use Rattle.base.specs.Lists.{every}
 use Rattle.meaning.specs.Numbers.{countOutside, secondNear, labelUnknown, mostSteps}
 use Rattle.meaning.specs.Forest.{axisNumber, Forest, none, step, size, stepsFrom, stepsOf}
-use Rattle.meaning.specs.Sections.{sameLabel}
 use Rattle.meaning.specs.Written.{stepBytes, stepsBytes, patternBytes}
-use Rattle.meaning.specs.Notation.{Name, any, called, Sketch, blank, draw, drawnSize, drawnFrom, stepsDrawn}
+use Rattle.meaning.specs.Notation.{Sketch, blank, draw, drawnSize, drawnFrom, stepsDrawn}
 use Rattle.meaning.specs.Calls.{refuses, writes}
-use Rattle.meaning.specs.LineCalls.{numberFrom, nameNumber, knownDrawn, numberedStep, inOrder, drawnWriting}
+use Rattle.meaning.specs.LineCalls.{nameNumber, knownDrawn, numberedStep, inOrder, drawnWriting}
 use Rattle.meaning.specs.declared.Step.{Step}
 use Rattle.laws.specs.Bridge.{length-stepsOf}
 use Rattle.laws.specs.MergeLabels.{LabelsWithin}
 use Rattle.laws.specs.MergeNears.{nears}
 use Rattle.laws.specs.SoundPatterns.{SoundPattern, nears-counted}
+use Rattle.laws.specs.NameNumbers.{name-low}
 
 -- the pattern that is drawn: each name by its number
 unfoldable pub drawnForest : List (List ℕ) → Sketch → Forest
@@ -56,27 +56,14 @@ module _ (ls : List (List ℕ)) where
 
 -- ---- it is sound where it has few steps and at most one near root step
 
--- no label has a number beyond the last
-number-low : (k : ℕ) (ls : List (List ℕ)) (l : List ℕ) → numberFrom (suc k) ls l ≤ k + length ls
-unfolding numberFrom pick
-number-low k [] l = omega arith
-number-low k (x ∷ ls) l = go (sameLabel l x) (number-low (suc k) ls l)
-  where
-    go : (b : Bool) → numberFrom (suc (suc k)) ls l ≤ suc k + length ls → pick b (suc k) (numberFrom (suc (suc k)) ls l) ≤ k + length (x ∷ ls)
-    go true h = omega arith
-    go false h = omega arith
-
 module _ (ls : List (List ℕ)) where
-  name-low : (n : Name) → nameNumber ls n ≤ length ls
-  unfolding nameNumber
-  name-low any = omega arith
-  name-low (called l) = omega (arith, number-low 0 ls l)
-
+  -- its labels are among the sheet's
   drawn-within : (t : Sketch) → LabelsWithin (length ls) (drawnForest ls t)
   unfolding drawnForest LabelsWithin
   drawn-within blank = tt
-  drawn-within (draw a n kids later) = (name-low n, drawn-within kids, drawn-within later)
+  drawn-within (draw a n kids later) = (name-low ls n, drawn-within kids, drawn-within later)
 
+  -- so it is sound
   pub drawn-sound : (t : Sketch) → drawnSize t ≤ mostSteps → nears (drawnForest ls t) ≤ 1 → SoundPattern (length ls) (drawnForest ls t)
   drawn-sound t few lone = record { few = omega (arith, drawn-size ls t); within = drawn-within t; lone = lone }
 

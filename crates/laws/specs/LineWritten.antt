@@ -1,33 +1,26 @@
 -- What is written of a pattern is a line of the notation, and what the line draws is the pattern.
-use Prim.Native.Nat.{ℕ, zero, suc, _+_, _≤_, _<_}
+use Prim.Native.Nat.{ℕ, zero, suc, _+_, _≤_}
 use mathlib.Core.Path.{_≡_, refl, sym, _∙_}
 use mathlib.Core.Bool.{Bool, true, false, true≢false}
 use mathlib.Core.List.{List, [], _∷_, _++_, append-nil}
 use native.Mathlib.Omega.{arith}
 use lib.ListN.{length, getD}
-use Rattle.base.specs.Apart.{is-false}
 use Rattle.base.specs.Bools.{and-first, and-second}
-use Rattle.base.specs.Choice.{pick}
 use Rattle.base.specs.Lists.{every}
-use Rattle.base.specs.ListLaws.{some-of, every-append}
+use Rattle.base.specs.ListLaws.{every-append}
 use Rattle.base.specs.Replacing.{place-in}
 use Rattle.meaning.specs.Forest.{Axis, axisNumber, Forest, none, step, size, stepsFrom, stepsOf}
-use Rattle.meaning.specs.Sections.{sameLabel}
 use Rattle.meaning.specs.LabelBytes.{labelAt}
 use Rattle.meaning.specs.PatternText.{labelText, several, inBrackets, branchesText, patternText}
-use Rattle.meaning.specs.Notation.{writable, Name, any, called, Named, starred, labelled, Sketch, blank, draw}
+use Rattle.meaning.specs.Notation.{writable, Name, called, Named, starred, labelled, Sketch, blank, draw}
 use Rattle.meaning.specs.Notation.{Branches, bare, last, more, whole, Branch, along, Rest, leaf, over, Line, dot, branches}
 use Rattle.meaning.specs.Notation.{drawnSize, drawnFrom, stepsDrawn}
-use Rattle.meaning.specs.LineCalls.{numberFrom, nameNumber, isKnown, knownDrawn, stepWritable}
-use Rattle.laws.specs.Labels.{same-bytes, bytes-same, Distinct}
+use Rattle.meaning.specs.LineCalls.{knownDrawn, stepWritable}
+use Rattle.laws.specs.Labels.{Distinct}
 use Rattle.laws.specs.MergeLabels.{LabelsWithin}
 use Rattle.laws.specs.TextRoom.{Sized}
+use Rattle.laws.specs.NameNumbers.{nameOf, name-back, name-known}
 use Rattle.laws.specs.LineForest.{drawnForest}
-
--- what a label number is called
-unfoldable pub nameOf : List (List ℕ) → ℕ → Name
-nameOf ls zero = any
-nameOf ls (suc l) = called (labelAt ls (suc l))
 
 -- a pattern as what a line draws
 unfoldable pub sketched : List (List ℕ) → Forest → Sketch
@@ -95,34 +88,13 @@ module _ (ls : List (List ℕ)) (sized : Sized ls) where
 
 -- ---- what it draws
 
--- where no label occurs twice, the number of a label is its place
-number-back : (k : ℕ) (ls : List (List ℕ)) (n : ℕ) → Distinct ls → n < length ls → numberFrom k ls (getD ls n []) ≡ k + n
-unfolding numberFrom pick
-number-back k [] n apart h = absurd (omega arith)
-number-back k (x ∷ ls) zero apart h = rw (bytes-same x) (omega arith)
-number-back k (x ∷ ls) (suc n) apart h =
-    let other : sameLabel (getD ls n []) x ≡ false = is-false _ (λ e. apart 0 (suc n) (omega arith) h (sym (same-bytes _ x e))) in
-    rw other (number-back (suc k) ls n (λ i j l m. apart (suc i) (suc j) (omega arith) (omega arith)) (omega arith) ∙ omega arith)
-
 module _ (ls : List (List ℕ)) where
-  -- so what a label number is called has that number
-  name-back : (l : ℕ) → Distinct ls → l ≤ length ls → nameNumber ls (nameOf ls l) ≡ l
-  unfolding nameNumber nameOf labelAt
-  name-back zero apart h = refl
-  name-back (suc l) apart h = number-back 1 ls l apart (omega arith) ∙ omega arith
-
-  -- and is known
-  name-known : (l : ℕ) → l ≤ length ls → isKnown ls (nameOf ls l) ≡ true
-  unfolding isKnown nameOf labelAt
-  name-known zero h = refl
-  name-known (suc l) h = some-of (sameLabel (getD ls l [])) (place-in ls l [] (omega arith)) (bytes-same (getD ls l []))
-
-  -- so what is drawn is the pattern
+  -- what is drawn is the pattern, where no label occurs twice
   pub forest-back : (f : Forest) → Distinct ls → LabelsWithin (length ls) f → drawnForest ls (sketched ls f) ≡ f
   unfolding sketched drawnForest LabelsWithin
   forest-back none apart within = refl
   forest-back (step a l kids later) apart within =
-      rw (name-back l apart (within .0), forest-back kids apart (within .1), forest-back later apart (within .2))
+      rw (name-back ls l apart (within .0), forest-back kids apart (within .1), forest-back later apart (within .2))
 
   -- every name that is drawn below step p, from number k on, is known
   known-from : (p k : ℕ) (f : Forest) → LabelsWithin (length ls) f → every (knownDrawn ls) (drawnFrom p k (sketched ls f)) ≡ true
@@ -131,7 +103,7 @@ module _ (ls : List (List ℕ)) where
   known-from p k (step a l kids later) within =
       rw (
         every-append (knownDrawn ls) (drawnFrom k (suc k) (sketched ls kids)),
-        name-known l (within .0),
+        name-known ls l (within .0),
         known-from k (suc k) kids (within .1),
         known-from p (suc k + drawnSize (sketched ls kids)) later (within .2),
       )
