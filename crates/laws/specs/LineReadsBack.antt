@@ -24,7 +24,7 @@ use Rattle.laws.specs.Labels.{sheet-distinct}
 use Rattle.laws.specs.MergeNears.{nears}
 use Rattle.laws.specs.SoundPatterns.{SoundPattern, pattern-read, read-pattern}
 use Rattle.laws.specs.RoundTrip.{sheet-read}
-use Rattle.laws.specs.TextRoom.{sheet-sized, sheet-short, pattern-room}
+use Rattle.laws.specs.TextRoom.{sheet-sized, pattern-room}
 use Rattle.laws.specs.LineAnswers.{LineWrites, line-writes}
 use Rattle.laws.specs.LineForest.{drawn-size, drawn-written}
 use Rattle.laws.specs.LineWritten.{sketched, written-line, forest-back, names-known}
@@ -78,7 +78,7 @@ pub record ReadsBack (s text bs : List ℕ) : Type 0 where
 module _ (s left : List ℕ) (sh : Sheet) (was-read : sheet s ≡ read sh left) (f : Forest) (sound : SoundPattern (length (sh .labels)) f) where
   -- with the labels of a sheet that was read there is room for it in a line
   pub text-short : length (patternText (sh .labels) f) ≤ longestLine
-  text-short = pattern-room (sh .labels) (sheet-short s sh left was-read) f (sound .few)
+  text-short = pattern-room (sh .labels) (sheet-sized s sh left was-read) f (sound .few)
 
   -- what a line draws of the pattern is written as the pattern's bytes
   drawn-back : drawnWriting (sh .labels) (stepsDrawn (sketched (sh .labels) f)) ≡ writes tt (patternBytes f)

@@ -25,10 +25,6 @@ use Rattle.laws.specs.ReadNumbers.{bytes-read}
 unfoldable pub Sized : List (List ℕ) → Type 0
 Sized ls = (text : List ℕ) → List·Memᴰ text ls → (1 ≤ length text) × (length text ≤ longestLabel)
 
--- no label is longer than may be
-unfoldable pub Short : List (List ℕ) → Type 0
-Short ls = (text : List ℕ) → List·Memᴰ text ls → length text ≤ longestLabel
-
 -- a label that is read
 label-sized : (before : List (List ℕ)) (s text left : List ℕ) → label before s ≡ read text left → (1 ≤ length text) × (length text ≤ longestLabel)
 unfolding label
@@ -69,11 +65,6 @@ sheet-sized s sh left h =
     let made = give-read _ [] (ended .1) .0 in
     subst Sized (ap (λ (x : Sheet). x .labels) made) (labels-sized (n .first) [] (n .others) (known .value) (known .middle) (known .before))
 
--- and so short
-pub sheet-short : (s : List ℕ) (sh : Sheet) (left : List ℕ) → sheet s ≡ read sh left → Short (sh .labels)
-unfolding Sized Short
-sheet-short s sh left h text m = sheet-sized s sh left h text m .1
-
 -- ---- a pattern: 64 bytes a step
 
 -- two of its axis
@@ -88,14 +79,14 @@ unfolding inBrackets ascii
 brackets-room true text = omega (arith, length-append text (93 ∷ []))
 brackets-room false text = omega arith
 
-module _ (ls : List (List ℕ)) (short : Short ls) where
+module _ (ls : List (List ℕ)) (sized : Sized ls) where
   -- sixty of its label
   label-room : (l : ℕ) → length (labelText ls l) ≤ 60
-  unfolding labelText labelAt ascii Short
+  unfolding labelText labelAt ascii Sized
   label-room zero = omega arith
   label-room (suc l) =
       ⊎-elim
-      (λ e. short (getD ls l []) (place-in ls l [] (ltb-true l (length ls) e)))
+      (λ e. sized (getD ls l []) (place-in ls l [] (ltb-true l (length ls) e)) .1)
       (λ e. omega (arith, ap length (List·getD-eq-default ls [] {n = l} (ltb-false l (length ls) e))))
       (true-or-false (ltb l (length ls)))
 

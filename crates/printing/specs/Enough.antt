@@ -11,7 +11,7 @@ use Rattle.meaning.specs.Forest.{size}
 use Rattle.meaning.specs.Sections.{Sheet}
 use Rattle.meaning.specs.Sections
 use Rattle.meaning.specs.Printing.{tableText, refusedText}
-use Rattle.laws.specs.TextRoom.{Short}
+use Rattle.laws.specs.TextRoom.{Sized}
 use Rattle.shapes.specs.Shapes.{entryOf, entriesIn, tableOf, WellFormed, WellFormedTable}
 use Rattle.shapes.specs.Steps.{count-size}
 use Rattle.shapes.specs.TableValues.{length-table}
@@ -48,13 +48,13 @@ small-table t rounds sound h =
 
 -- after `put_table` the output begins with the table's text, and the next place is its length
 pub table-printed : (sh : Sheet) (s : List ℕ) (subscriptions : ℕ) (t : Table) (rounds : ℕ) (out after : List ℕ) (next : ℕ)
-    → WellFormedTable t → rounds < 100000 → sh .labels ≡ labelsIn s → Short (sh .labels) → length (sh .patterns) ≡ subscriptions → subscriptions ≤ mostPatterns
+    → WellFormedTable t → rounds < 100000 → sh .labels ≡ labelsIn s → Sized (sh .labels) → length (sh .patterns) ≡ subscriptions → subscriptions ≤ mostPatterns
     → 80000 ≤ length out → written after next ≡ put (written out 0) (textOf (labelsIn s) subscriptions (builtTable t rounds))
     → (next ≡ length (tableText sh (builtTable t rounds)))
     × (after ≡ tableText sh (builtTable t rounds) ++ drop (length (tableText sh (builtTable t rounds))) out)
-table-printed sh s subscriptions t rounds out after next sound few e short f l room h =
+table-printed sh s subscriptions t rounds out after next sound few e sized f l room h =
     let text = tableText sh (builtTable t rounds) in
-    let enough = table-room sh (builtTable t rounds) short (omega arith) (small-table t rounds sound few) in
+    let enough = table-room sh (builtTable t rounds) sized (omega arith) (small-table t rounds sound few) in
     put-whole text out after next (omega arith) (h ∙ ap (put (written out 0)) (sym (text-of sh (labelsIn s) subscriptions (builtTable t rounds) e f)))
 
 -- after `put_refused` it begins with the refusal

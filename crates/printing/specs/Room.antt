@@ -16,7 +16,7 @@ use Rattle.meaning.specs.Routing.{membersOf}
 use Rattle.meaning.specs.PatternText.{ascii, patternText}
 use Rattle.meaning.specs.Printing.{decimal}
 use Rattle.meaning.specs.Printing.{commaText, totalsText, entryText, tableText, refusedText}
-use Rattle.laws.specs.TextRoom.{Short, pattern-room}
+use Rattle.laws.specs.TextRoom.{Sized, pattern-room}
 use Rattle.texts.specs.Decimals.{digits}
 use Rattle.texts.specs.Wanted.{byteIf}
 use Rattle.printing.specs.MemberTexts.{numbersText, numbers-text}
@@ -56,7 +56,7 @@ members-room n members h =
 
 -- ---- entries
 
-module _ (ls : List (List ℕ)) (short : Short ls) (n : ℕ) (few : n ≤ mostPatterns) where
+module _ (ls : List (List ℕ)) (sized : Sized ls) (n : ℕ) (few : n ≤ mostPatterns) where
   entry-room : (e : Entry) → size (e .pattern) ≤ mostSteps → length (entryText ls n e) ≤ 1219
   unfolding entryText ascii
   entry-room e h =
@@ -66,7 +66,7 @@ module _ (ls : List (List ℕ)) (short : Short ls) (n : ℕ) (few : n ≤ mostPa
         length-append (commaText (membersOf n (e .members))) (ascii ": " ++ (pattern ++ ascii "\n")),
         length-append pattern (ascii "\n"),
         members-room n (e .members) few,
-        pattern-room ls short (e .pattern) h,
+        pattern-room ls sized (e .pattern) h,
       )
 
   entries-room : (es : List Entry) → ((e : Entry) → List·Memᴰ e es → size (e .pattern) ≤ mostSteps) → length (flatMap (entryText ls n) es) ≤ 1219 * length es
@@ -116,15 +116,15 @@ totals-room n t few h =
     )
 
 -- the room that is always enough
-pub table-room : (sh : Sheet) (t : Table) → Short (sh .labels) → length (sh .patterns) ≤ mostPatterns → Small t → length (tableText sh t) ≤ 80000
+pub table-room : (sh : Sheet) (t : Table) → Sized (sh .labels) → length (sh .patterns) ≤ mostPatterns → Small t → length (tableText sh t) ≤ 80000
 unfolding tableText
-table-room sh t short few h =
+table-room sh t sized few h =
     let n = length (sh .patterns) in
     omega (
       arith,
       length-append (totalsText n t) (flatMap (entryText (sh .labels) n) (t .entries)),
       totals-room n t few h,
-      entries-room (sh .labels) short n few (t .entries) (h .small),
+      entries-room (sh .labels) sized n few (t .entries) (h .small),
       h .few,
     )
 

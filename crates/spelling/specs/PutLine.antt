@@ -16,7 +16,7 @@ use Rattle.meaning.specs.PatternText.{patternText}
 use Rattle.meaning.specs.Calls.{writes}
 use Rattle.meaning.specs.LineCalls.{stepWritable, textWriting, outputAnswer}
 use Rattle.meaning.specs.declared.Output.the-variants as output
-use Rattle.laws.specs.TextRoom.{sheet-short, pattern-room}
+use Rattle.laws.specs.TextRoom.{sheet-sized, pattern-room}
 use Rattle.shapes.specs.Shapes.{patternOf, WellFormed}
 use Rattle.shapes.specs.Steps.{count-size}
 use Rattle.shapes.specs.declared.Pattern.{Pattern}
@@ -44,8 +44,8 @@ line-put s stands p sound after n h =
     let text = patternText (labelsIn s) (patternOf p) in
     let line = replicate {A = ℕ} longestLine 0 in
     let room : length line ≡ longestLine = length-replicate {A = ℕ} longestLine 0 in
-    let short = sheet-short s _ (stands .left) (stands .was-read) in
-    let enough : length text ≤ longestLine = pattern-room (labelsIn s) short (patternOf p) (omega (arith, count-size p sound, sound .few)) in
+    let sized = sheet-sized s _ (stands .left) (stands .was-read) in
+    let enough : length text ≤ longestLine = pattern-room (labelsIn s) sized (patternOf p) (omega (arith, count-size p sound, sound .few)) in
     let whole = put-whole text line after n (omega arith) h in
     record {
       long = whole .0;
