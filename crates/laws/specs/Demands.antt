@@ -55,7 +55,7 @@ use Rattle.laws.specs.LabelsStand.{StandsIn, sheet-label-stands, documen
 use Rattle.laws.specs.BytesDecide.{same-number, read-by-bytes}
 use Rattle.laws.specs.JudgingGives.{document-rises}
 use Rattle.laws.specs.SoundPatterns.{SoundPattern}
-use Rattle.laws.specs.RoundTrip.{sheet-read}
+use Rattle.laws.specs.RoundTrip.{read-only-pattern, sheet-read}
 use Rattle.laws.specs.MergeCovers.{merge-covers-first, merge-covers-second}
 use Rattle.laws.specs.InOneEntry.{fair-just-one}
 use Rattle.laws.specs.Rounds.{build-within, build-rounds}
@@ -70,7 +70,7 @@ use Rattle.laws.specs.LineLabels.{labels-writable}
 use Rattle.laws.specs.LineJudged.{line-accepted, accepted-line, refused-place, place-refused}
 use Rattle.laws.specs.LineForest.{drawnForest, drawn-steps, drawn-sound, drawn-unknown, drawn-many, drawn-nears, drawn-written}
 use Rattle.laws.specs.LineAnswers.{LineWrites, LineRefused, sheet-refused, other-refused, refused-other, line-writes, line-refused}
-use Rattle.laws.specs.LineReadsBack.{ReadsBack, read-only-pattern, text-short, text-reads-back, pattern-reads-back, subscription-reads-back}
+use Rattle.laws.specs.LineReadsBack.{ReadsBack, text-short, text-reads-back, pattern-reads-back, subscription-reads-back}
 use Rattle.laws.specs.Cases as cases
 
 -- ======== 1. "Every call may be given arbitrary bytes and numbers. It ends, reads and writes only inside what it was lent, and

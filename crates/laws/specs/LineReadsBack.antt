@@ -1,70 +1,32 @@
 -- The text of a sound pattern whose labels can stand in a line is a line of at most 1,024 bytes that reads back as the same pattern;
 -- and so is what is written of a pattern, by its bytes or as a subscription.
 use Prim.Native.Nat.{ℕ, _≤_}
-use mathlib.Core.Path.{_≡_, refl, sym, ap, _∙_, subst}
-use mathlib.Core.Bool.{Bool, true, false}
-use mathlib.Core.List.{List, [], append-nil}
+use mathlib.Core.Path.{_≡_, sym, ap, _∙_, subst}
+use mathlib.Core.Bool.{true}
+use mathlib.Core.List.{List}
 use native.Mathlib.Omega.{arith}
 use borrow.Author.Tests.{ltb-true}
 use lib.ListN.{length}
-use Rattle.base.specs.Choice.{pick}
 use Rattle.base.specs.Lists.{every}
 use Rattle.base.specs.Replacing.{place-in}
 use Rattle.meaning.specs.Numbers.{longestLine}
-use Rattle.meaning.specs.Reader.{Reading, read, refused, go-on, _>>_, give, end}
+use Rattle.meaning.specs.Reader.{read}
 use Rattle.meaning.specs.Forest.{Forest, none, size, stepsOf}
-use Rattle.meaning.specs.Sections.{pattern, Sheet, sheet}
+use Rattle.meaning.specs.Sections.{Sheet, sheet}
 use Rattle.meaning.specs.Written.{patternBytes}
 use Rattle.meaning.specs.PatternText.{patternText}
 use Rattle.meaning.specs.Notation.{Sketch, Line, stepsDrawn}
-use Rattle.meaning.specs.Calls.{judged, isSubscription, subscription, Writing, refuses, writes}
+use Rattle.meaning.specs.Calls.{judged, isSubscription, subscription, writes}
 use Rattle.meaning.specs.LineCalls.{drawnWriting, stepWritable, textWriting, onlyPattern, patternWriting, subscriptionWriting}
-use Rattle.laws.specs.Readers.{bind-read, read-bind, give-read, end-read}
+use Rattle.laws.specs.Readers.{test-written, judged-written}
 use Rattle.laws.specs.Labels.{sheet-distinct}
 use Rattle.laws.specs.MergeNears.{nears}
-use Rattle.laws.specs.SoundPatterns.{SoundPattern, pattern-read, read-pattern}
-use Rattle.laws.specs.RoundTrip.{sheet-read}
+use Rattle.laws.specs.SoundPatterns.{SoundPattern}
+use Rattle.laws.specs.RoundTrip.{only-pattern-read, sheet-read}
 use Rattle.laws.specs.TextRoom.{sheet-sized, pattern-room}
 use Rattle.laws.specs.LineAnswers.{LineWrites, line-writes}
 use Rattle.laws.specs.LineForest.{drawn-size, drawn-written}
 use Rattle.laws.specs.LineWritten.{sketched, written-line, forest-back, names-known}
-
--- ---- where something is written
-
-module _ {A : Type 0} where
-  -- a refusal writes nothing
-  refuses-not-writes : {n : ℕ} {a : A} {bs : List ℕ} → refuses n ≡ writes a bs → ⊥
-  refuses-not-writes h = let z : _≡_ {A = ℕ} 0 1 = cc in omega arith
-
-  -- the test held
-  test-written : (t : Bool) (w : Writing A) (n : ℕ) {a : A} {bs : List ℕ} → pick t w (refuses n) ≡ writes a bs → (t ≡ true) × (w ≡ writes a bs)
-  unfolding pick
-  test-written true w n h = (refl, h)
-  test-written false w n h = absurd (refuses-not-writes h)
-
-module _ {A B : Type 0} where
-  -- what was judged had been read
-  judged-written : (r : Reading A) (next : A → Writing B) {b : B} {bs : List ℕ} → judged r refuses next ≡ writes b bs
-      → (a : A) × (left : List ℕ) × (r ≡ read a left) × (next a ≡ writes b bs)
-  unfolding judged
-  judged-written (read a left) next h = (a, left, refl, h)
-  judged-written (refused n) next h = absurd (refuses-not-writes h)
-
--- the bytes of a pattern, and no more, are the bytes of a sound one
-only-pattern-read : (known : ℕ) (p : List ℕ) (f : Forest) (left : List ℕ) → onlyPattern known p ≡ read f left → SoundPattern known f × (p ≡ patternBytes f)
-unfolding onlyPattern
-only-pattern-read known p f left h =
-    let one = bind-read _ _ p f left h in
-    let ended = end-read _ (one .middle) (one .after) in
-    let made = give-read _ [] (ended .1) .0 in
-    let r = pattern-read known p (one .value) (one .middle) (one .before) in
-    subst (λ (g : Forest). SoundPattern known g × (p ≡ patternBytes g)) made (r .0, r .1 ∙ rw (ended .0, append-nil) refl)
-
--- and a sound one is read from its bytes
-pub read-only-pattern : (known : ℕ) (f : Forest) → SoundPattern known f → onlyPattern known (patternBytes f) ≡ read f []
-unfolding onlyPattern _>>_ go-on end give
-read-only-pattern known f sound =
-    read-bind (pattern known) _ (patternBytes f) f [] (ap (pattern known) (sym (append-nil (patternBytes f))) ∙ read-pattern known f [] sound)
 
 -- ---- the text of a sound pattern
 

@@ -11,12 +11,13 @@ use lib.Pow.{pow-mono}
 use native.Mathlib.Nat.{lt-of-lt-of-le}
 use Rattle.base.specs.Choice.{pick}
 use Rattle.meaning.specs.Numbers.{noRoom}
-use Rattle.meaning.specs.Reader.{Reading, read, refused, go-on, _>>=_, _>>_, give, unless, numberOf}
+use Rattle.meaning.specs.Reader.{read, go-on, _>>=_, _>>_, give, unless, numberOf}
 use Rattle.meaning.specs.Sections.{Sheet, sheet}
 use Rattle.meaning.specs.Building.{build}
 use Rattle.meaning.specs.Written.{tableBytes}
 use Rattle.meaning.specs.Calls.{judged, fairTable, tableNumber, Writing, refuses, writes, withRoom, after, buildWriting, buildAnswer}
 use Rattle.meaning.specs.Given.{refusal, gives, builtGiven}
+use Rattle.laws.specs.Readers.{judged-written}
 use Rattle.laws.specs.Fairness.{build-fair}
 use Rattle.laws.specs.EveryEntry.{EachPattern, build-steps, build-labels, build-nears, build-length, build-members}
 use Rattle.laws.specs.RoundTrip.{sheet-read, SoundTable, table-again}
@@ -50,18 +51,11 @@ module _ (s left : List ℕ) (sh : Sheet) (was-read : sheet s ≡ read sh left) 
 
 -- what a build says that it writes passes the check
 writing-passes : (s : List ℕ) (limit rounds : ℕ) (bytes : List ℕ) → buildWriting s limit ≡ writes rounds bytes → tableNumber s bytes ≡ 0
-unfolding buildWriting judged
-writing-passes s limit rounds bytes h = go (sheet s) refl h
-  where
-    built : Sheet → Writing ℕ
-    built sh = writes (build limit (sh .patterns) .rounds) (tableBytes (build limit (sh .patterns) .entries))
-
-    go : (m : Reading Sheet) → sheet s ≡ m → judged m refuses built ≡ writes rounds bytes → tableNumber s bytes ≡ 0
-    go (read sh left) e k =
-        let same : tableBytes (build limit (sh .patterns) .entries) ≡ bytes = cc in
-        rw same at (build-passes s left sh e limit)
-    -- a refusal writes nothing
-    go (refused n) e k = let z : _≡_ {A = ℕ} 0 1 = cc in absurd (omega arith)
+unfolding buildWriting
+writing-passes s limit rounds bytes h =
+    let on = judged-written (sheet s) _ h in
+    let same : tableBytes (build limit (on .0 .patterns) .entries) ≡ bytes = cc (on .3) in
+    rw same at (build-passes s (on .1) (on .0) (on .2) limit)
 
 -- and so do the bytes that the call leaves in its output, as many as it says, whenever it is not refused
 pub output-passes : (s : List ℕ) (limit : ℕ) (out : List ℕ) → (let w = withRoom out (buildWriting s limit) in

@@ -1,10 +1,12 @@
--- What a reading that went well tells of each of its parts.
+-- What a reading that went well tells of each of its parts, and what is known where something was written.
 use Prim.Native.Nat.{ℕ}
 use mathlib.Core.Path.{_≡_, refl, ap}
 use mathlib.Core.Bool.{Bool, true, false, false≢true}
 use mathlib.Core.List.{List, [], _∷_}
 use native.Mathlib.Omega.{arith}
+use Rattle.base.specs.Choice.{pick}
 use Rattle.meaning.specs.Reader.{Reading, read, refused, Reader, go-on, _>>=_, _>>_, give, unless, byte, end}
+use Rattle.meaning.specs.Calls.{judged, Writing, refuses, writes}
 
 module _ {A : Type 0} where
   -- a refusal is no reading
@@ -72,3 +74,24 @@ module _ {B : Type 0} where
   unfolding _>>_ end go-on
   end-read next [] h = (refl, h)
   end-read next (x ∷ s) h = absurd (refused-not-read h)
+
+-- ---- what was written
+
+module _ {A : Type 0} where
+  -- a refusal writes nothing
+  refuses-not-writes : {n : ℕ} {a : A} {bs : List ℕ} → refuses n ≡ writes a bs → ⊥
+  refuses-not-writes h = let z : _≡_ {A = ℕ} 0 1 = cc in omega arith
+
+  -- the test held
+  pub test-written : (t : Bool) (w : Writing A) (n : ℕ) {a : A} {bs : List ℕ} → pick t w (refuses n) ≡ writes a bs → (t ≡ true) × (w ≡ writes a bs)
+  unfolding pick
+  test-written true w n h = (refl, h)
+  test-written false w n h = absurd (refuses-not-writes h)
+
+module _ {A B : Type 0} where
+  -- what was judged had been read
+  pub judged-written : (r : Reading A) (next : A → Writing B) {b : B} {bs : List ℕ} → judged r refuses next ≡ writes b bs
+      → (a : A) × (left : List ℕ) × (r ≡ read a left) × (next a ≡ writes b bs)
+  unfolding judged
+  judged-written (read a left) next h = (a, left, refl, h)
+  judged-written (refused n) next h = absurd (refuses-not-writes h)

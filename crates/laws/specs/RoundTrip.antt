@@ -1,5 +1,5 @@
--- A sheet or a table that was read is written as the bytes that it was read from, and a sound table that was written is
--- read again.
+-- A pattern alone, a sheet or a table that was read is written as the bytes that it was read from, and a sound pattern or table that
+-- was written is read again.
 use Prim.Native.Nat.{ℕ, zero, suc, _^_, _≤_, _<_}
 use mathlib.Core.Path.{_≡_, refl, sym, ap, _∙_, subst}
 use mathlib.Core.List.{List, [], _∷_, _++_, flatMap, append-assoc, append-nil, List·Memᴰ}
@@ -11,9 +11,28 @@ use Rattle.meaning.specs.Reader.{read, go-on, _>>=_, _>>_, give, byte, end, rep
 use Rattle.meaning.specs.Forest.{Forest}
 use Rattle.meaning.specs.Sections.{label, labels, pattern, Sheet, sheet, Entry, entry, table}
 use Rattle.meaning.specs.Written.{patternBytes, numberBytes, entryBytes, tableBytes, labelBytes, sheetBytes}
+use Rattle.meaning.specs.LineCalls.{onlyPattern}
 use Rattle.laws.specs.Readers.{give-read, bind-read, read-bind, test-read, read-test, byte-read, end-read}
 use Rattle.laws.specs.ReadNumbers.{Bytes, bytes-left, bytes-read, number-read, read-number, repeat-read, read-repeat}
 use Rattle.laws.specs.SoundPatterns.{SoundPattern, pattern-read, read-pattern}
+
+-- ---- a pattern alone
+
+-- the bytes of a pattern, and no more, are the bytes of a sound one
+pub only-pattern-read : (known : ℕ) (p : List ℕ) (f : Forest) (left : List ℕ) → onlyPattern known p ≡ read f left → SoundPattern known f × (p ≡ patternBytes f)
+unfolding onlyPattern
+only-pattern-read known p f left h =
+    let one = bind-read _ _ p f left h in
+    let ended = end-read _ (one .middle) (one .after) in
+    let made = give-read _ [] (ended .1) .0 in
+    let r = pattern-read known p (one .value) (one .middle) (one .before) in
+    subst (λ (g : Forest). SoundPattern known g × (p ≡ patternBytes g)) made (r .0, r .1 ∙ rw (ended .0, append-nil) refl)
+
+-- and a sound one is read from its bytes
+pub read-only-pattern : (known : ℕ) (f : Forest) → SoundPattern known f → onlyPattern known (patternBytes f) ≡ read f []
+unfolding onlyPattern _>>_ go-on end give
+read-only-pattern known f sound =
+    read-bind (pattern known) _ (patternBytes f) f [] (ap (pattern known) (sym (append-nil (patternBytes f))) ∙ read-pattern known f [] sound)
 
 -- ---- sheets
 
