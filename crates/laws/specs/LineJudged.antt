@@ -26,7 +26,7 @@ module _ (s : List ℕ) where
   stays-early i h = rw (le-leb i longestLine h)
 
   -- a place from it on is put there
-  pub put-late : (i : ℕ) → longestLine ≤ i → within s (offAt i) ≡ offAt longestLine
+  put-late : (i : ℕ) → longestLine ≤ i → within s (offAt i) ≡ offAt longestLine
   unfolding within pick
   put-late i h = go (leb i longestLine) refl
     where

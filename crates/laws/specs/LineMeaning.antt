@@ -7,7 +7,7 @@ use Rattle.meaning.specs.Notation.{Sketch, blank, draw, Line, Drawn, drawnSize,
 use Rattle.laws.specs.LineComplete.{line-read}
 
 -- any two derivations of a line draw the same steps
-pub one-meaning : (s : List ℕ) (t u : Sketch) → Line s t → Line s u → stepsDrawn t ≡ stepsDrawn u
+one-meaning : (s : List ℕ) (t u : Sketch) → Line s t → Line s u → stepsDrawn t ≡ stepsDrawn u
 one-meaning s t u x y = cc (line-read s t x, line-read s u y)
 
 -- ---- the steps determine the sketch

@@ -33,7 +33,7 @@ not-sooner : {s : List ℕ} {i j : ℕ} → FirstFault s i → FirstFault s j �
 not-sooner {i = i} f g l = ⊎-elim (λ h. h .1 (g .before i l)) (λ h. ⊎-elim (λ k. omega arith) (λ k. omega arith) (g .here)) (f .here)
 
 -- so they are at the same place
-pub one-fault : {s : List ℕ} {i j : ℕ} → FirstFault s i → FirstFault s j → i ≡ j
+one-fault : {s : List ℕ} {i j : ℕ} → FirstFault s i → FirstFault s j → i ≡ j
 one-fault f g =
     let not-before = not-sooner f g in
     let not-after = not-sooner g f in
