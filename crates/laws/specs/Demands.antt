@@ -14,7 +14,7 @@ use Rattle.base.specs.Choice.{pick}
 use Rattle.base.specs.Lists.{every}
 use Rattle.meaning.specs.Numbers.{countOutside, secondNear, noRoom, notThere, notALine, labelUnknown, notWritable, mostSteps, longestLine}
 use Rattle.meaning.specs.Reader.{read, refused, Went, Reader}
-use Rattle.meaning.specs.Forest.{Forest, stepsOf}
+use Rattle.meaning.specs.Forest.{Forest, size, stepsOf}
 use Rattle.meaning.specs.Sections.{Sheet, sheet, Document, document, Node, Entry}
 use Rattle.meaning.specs.Satisfying.{satisfies, parentsOf}
 use Rattle.meaning.specs.Covering.{Laying, covers}
@@ -516,16 +516,18 @@ module _ (w : Writing (Unit {0})) (out : List ℕ) where
   unfolding withRoom outputAnswer pick
   writing-no-room text h short = rw (h, lt-leb (length text) (length out) short)
 
--- ---- what is written is a line, and reads back as the same steps
+-- ---- what is written is a line and reads back as the same steps, for any pattern of up to 16 steps whose labels are writable
 
-module _ (s left : List ℕ) (sh : Sheet) (was-read : sheet s ≡ read sh left) (f : Forest) (sound : SoundPattern (length (sh .labels)) f) where
-  -- 1,024 bytes are enough for any 16 steps: the text of any pattern that passes the check has no more
-  pub enough-bytes : length (patternText (sh .labels) f) ≤ longestLine
-  enough-bytes = text-short s left sh was-read f sound
+module _ (s left : List ℕ) (sh : Sheet) (was-read : sheet s ≡ read sh left) where
+  -- 1,024 bytes are enough for any 16 steps: their text has no more
+  pub enough-bytes : (f : Forest) → size f ≤ mostSteps → length (patternText (sh .labels) f) ≤ longestLine
+  enough-bytes = text-short s left sh was-read
 
-  -- whose labels are writable: the text is such a line, and what is written of it is the pattern's bytes
-  pub text-back : every (stepWritable (sh .labels)) (stepsOf f) ≡ true → ReadsBack s (patternText (sh .labels) f) (patternBytes f)
-  text-back = text-reads-back s left sh was-read f sound
+  -- the text of any pattern that passes the check and whose labels are writable is such a line, and what is written of that line is
+  -- the pattern's bytes
+  pub text-back : (f : Forest) → SoundPattern (length (sh .labels)) f → every (stepWritable (sh .labels)) (stepsOf f) ≡ true
+      → ReadsBack s (patternText (sh .labels) f) (patternBytes f)
+  text-back = text-reads-back s left sh was-read
 
 -- so it is with what the calls leave in their output, as many bytes as they say: a pattern's bytes come back
 pub pattern-back : (s p found : List ℕ) (g : Given ℕ) (out : List ℕ) → WritePatternGives s p found g out → g .number ≡ 0 → ReadsBack s (take (g .values) out) p

@@ -9,7 +9,7 @@ use borrow.Author.Tests.{ltb-true}
 use lib.ListN.{length}
 use Rattle.base.specs.Lists.{every}
 use Rattle.base.specs.Replacing.{place-in}
-use Rattle.meaning.specs.Numbers.{longestLine}
+use Rattle.meaning.specs.Numbers.{mostSteps, longestLine}
 use Rattle.meaning.specs.Reader.{read}
 use Rattle.meaning.specs.Forest.{Forest, none, size, stepsOf}
 use Rattle.meaning.specs.Sections.{Sheet, sheet}
@@ -30,18 +30,18 @@ use Rattle.laws.specs.LineWritten.{sketched, written-line, forest-back, 
 
 -- ---- the text of a sound pattern
 
--- it is a line of at most 1,024 bytes, and what is written of that line is these bytes
+-- a text is a line of at most 1,024 bytes, and what is written of that line is these bytes
 pub record ReadsBack (s text bs : List ℕ) : Type 0 where
   pub drawing : Sketch
   pub line : Line text drawing
   pub short : length text ≤ longestLine
   pub back : LineWrites s text bs
 
-module _ (s left : List ℕ) (sh : Sheet) (was-read : sheet s ≡ read sh left) (f : Forest) (sound : SoundPattern (length (sh .labels)) f) where
-  -- with the labels of a sheet that was read there is room for it in a line
-  pub text-short : length (patternText (sh .labels) f) ≤ longestLine
-  text-short = pattern-room (sh .labels) (sheet-sized s sh left was-read) f (sound .few)
+-- with the labels of a sheet that was read there is room in a line for the text of any pattern within the limit of steps
+pub text-short : (s left : List ℕ) (sh : Sheet) → sheet s ≡ read sh left → (f : Forest) → size f ≤ mostSteps → length (patternText (sh .labels) f) ≤ longestLine
+text-short s left sh was-read = pattern-room (sh .labels) (sheet-sized s sh left was-read)
 
+module _ (s left : List ℕ) (sh : Sheet) (was-read : sheet s ≡ read sh left) (f : Forest) (sound : SoundPattern (length (sh .labels)) f) where
   -- what a line draws of the pattern is written as the pattern's bytes
   drawn-back : drawnWriting (sh .labels) (stepsDrawn (sketched (sh .labels) f)) ≡ writes tt (patternBytes f)
   drawn-back =
@@ -56,12 +56,13 @@ module _ (s left : List ℕ) (sh : Sheet) (was-read : sheet s ≡ read sh left) 
   pub text-reads-back : every (stepWritable (sh .labels)) (stepsOf f) ≡ true → ReadsBack s (patternText (sh .labels) f) (patternBytes f)
   text-reads-back fits =
       let ls = sh .labels in
+      let short = text-short s left sh was-read f (sound .few) in
       let line = written-line ls (sheet-sized s sh left was-read) f (sound .within) fits in
       record {
         drawing = sketched ls f;
         line = line;
-        short = text-short;
-        back = line-writes s left sh was-read (patternText ls f) (sketched ls f) line text-short (patternBytes f) drawn-back;
+        short = short;
+        back = line-writes s left sh was-read (patternText ls f) (sketched ls f) line short (patternBytes f) drawn-back;
       }
 
 -- ---- what is written
