@@ -22,7 +22,7 @@ use Rattle.meaning.specs.Calls.{plainAnswer, tableAnswer, wantedAnswer, matches
 use Rattle.meaning.specs.Calls.{subscription, labelPart}
 use Rattle.meaning.specs.Notation.{Drawn}
 use Rattle.meaning.specs.Lines.{LineRead, offAt, draws, readLine}
-use Rattle.meaning.specs.LineCalls.{inOrder, drawnWriting, lineJudged, lineThen, linedAnswer, lineAnswer, lineOutput, textWriting, onlyPattern}
+use Rattle.meaning.specs.LineCalls.{inOrder, drawnWriting, lineJudged, lineThen, drawnAnswer, lineAnswer, lineOutput, textWriting, onlyPattern}
 use Rattle.meaning.specs.LineCalls.{patternWriting, subscriptionWriting, outputAnswer}
 use Rattle.meaning.specs.Given.{Given, refusal, gives, byNumber, ToldByNumber, askedGiven, MergeValues, mergedGiven}
 use Rattle.meaning.specs.Given.{BuildValues, builtGiven, LineValues, linedGiven, outputGiven, routedGiven, RouteValues, tabledGiven}
@@ -207,8 +207,8 @@ PlaceTold (lined.Refused n place) = (1 ≤ n) × (place ≤ longestLine) × ((n 
 PlaceTold (lined.Wrote long) = Unit {0}
 
 -- what is written comes with none
-written-placed : (w : Writing (Unit {0})) → WritingNotZero w → PlaceTold (linedAnswer w)
-unfolding WritingNotZero linedAnswer PlaceTold
+written-placed : (w : Writing (Unit {0})) → WritingNotZero w → PlaceTold (drawnAnswer w)
+unfolding WritingNotZero drawnAnswer PlaceTold
 written-placed (refuses n) h = (h, omega arith, λ other. refl)
 written-placed (writes u bs) h = tt
 
@@ -222,7 +222,7 @@ unfolding lineAnswer lineThen judged lineJudged PlaceTold NotZero
 line-placed s line out = by-sheet (sheet s) (sheet-numbered .not-zero s)
   where
     next : Sheet → List Drawn → Lined
-    next sh ds = linedAnswer (withRoom out (drawnWriting (sh .labels) ds))
+    next sh ds = drawnAnswer (withRoom out (drawnWriting (sh .labels) ds))
 
     by-line : (sh : Sheet) (r : LineRead) → readLine line ≡ r → PlaceTold (lineJudged r (lined.Refused notALine) (next sh))
     by-line sh (offAt i) e = (omega arith, ⊎-elim (λ f. f .0) (λ f. omega arith) (refused-place line i e), λ other. absurd (other refl))
@@ -453,16 +453,16 @@ output-zeros found w told g left answer output h =
 
 -- and so does a refused line
 line-as-found : (s line out : List ℕ) → linedGiven (lineAnswer out s line) .refused ≡ true → lineOutput out s line ≡ out
-unfolding lineAnswer lineOutput lineThen judged lineJudged linedAnswer linedGiven refusal gives after
+unfolding lineAnswer lineOutput lineThen judged lineJudged drawnAnswer linedGiven refusal gives after
 line-as-found s line out h = by-sheet (sheet s) h
   where
     next : Sheet → List Drawn → Lined
-    next sh ds = linedAnswer (withRoom out (drawnWriting (sh .labels) ds))
+    next sh ds = drawnAnswer (withRoom out (drawnWriting (sh .labels) ds))
 
     left : Sheet → List Drawn → List ℕ
     left sh ds = after out (withRoom out (drawnWriting (sh .labels) ds))
 
-    written : (w : Writing (Unit {0})) → linedGiven (linedAnswer w) .refused ≡ true → after out w ≡ out
+    written : (w : Writing (Unit {0})) → linedGiven (drawnAnswer w) .refused ≡ true → after out w ≡ out
     written (refuses n) k = refl
     written (writes u bs) k = absurd (false≢true k)
 

@@ -16,7 +16,7 @@ use Rattle.meaning.specs.Written.{stepsBytes}
 use Rattle.meaning.specs.Notation.{Sketch, Line, Drawn, stepsDrawn, RefusedAt}
 use Rattle.meaning.specs.Lines.{LineRead, offAt, draws, readLine}
 use Rattle.meaning.specs.Calls.{judged, Writing, refuses, writes, withRoom, after}
-use Rattle.meaning.specs.LineCalls.{knownDrawn, numberedStep, inOrder, drawnWriting, lineJudged, lineThen, linedAnswer, lineAnswer, lineOutput}
+use Rattle.meaning.specs.LineCalls.{knownDrawn, numberedStep, inOrder, drawnWriting, lineJudged, lineThen, drawnAnswer, lineAnswer, lineOutput}
 use Rattle.meaning.specs.Given.{refusal, linedGiven}
 use Rattle.meaning.specs.declared.Step.{Step}
 use Rattle.meaning.specs.declared.Lined.the-variants as lined
@@ -43,8 +43,8 @@ sheet-refused s line n h = record { answer = λ out. rw h; output = λ out. rw h
 -- ---- bytes that are no line
 
 -- what is drawn is never refused by 13
-drawn-not-13 : (out : List ℕ) (ls : List (List ℕ)) (ds : List Drawn) (i : ℕ) → linedAnswer (withRoom out (drawnWriting ls ds)) ≡ lined.Refused notALine i → ⊥
-unfolding linedAnswer withRoom drawnWriting inOrder pick linedGiven refusal
+drawn-not-13 : (out : List ℕ) (ls : List (List ℕ)) (ds : List Drawn) (i : ℕ) → drawnAnswer (withRoom out (drawnWriting ls ds)) ≡ lined.Refused notALine i → ⊥
+unfolding drawnAnswer withRoom drawnWriting inOrder pick linedGiven refusal
 drawn-not-13 out ls ds i h = go (every (knownDrawn ls) ds) (leb (length ss) mostSteps) (leb (length (keep isNearRoot ss)) 1) h
   where
     ss : List Step
@@ -53,13 +53,13 @@ drawn-not-13 out ls ds i h = go (every (knownDrawn ls) ds) (leb (length ss) most
     other : (n : ℕ) → (n ≡ notALine → ⊥) → lined.Refused n 0 ≡ lined.Refused notALine i → ⊥
     other n apart e = apart (ap (λ x. linedGiven x .number) e)
 
-    room : (b : Bool) → linedAnswer (pick b (writes tt (stepsBytes ss)) (refuses noRoom)) ≡ lined.Refused notALine i → ⊥
+    room : (b : Bool) → drawnAnswer (pick b (writes tt (stepsBytes ss)) (refuses noRoom)) ≡ lined.Refused notALine i → ⊥
     room true e = let z : _≡_ {A = ℕ} 0 1 = cc in omega arith
     room false e = other noRoom (λ z. omega arith) e
 
     go : (known few lone : Bool)
         → (let near = pick lone (writes tt (stepsBytes ss)) (refuses secondNear) in
-        linedAnswer (withRoom out (pick known (pick few near (refuses countOutside)) (refuses labelUnknown))) ≡ lined.Refused notALine i)
+        drawnAnswer (withRoom out (pick known (pick few near (refuses countOutside)) (refuses labelUnknown))) ≡ lined.Refused notALine i)
         → ⊥
     go true true true e = room (leb (length (stepsBytes ss)) (length out)) e
     go true true false e = other secondNear (λ z. omega arith) e
@@ -79,7 +79,7 @@ module _ (s left : List ℕ) (sh : Sheet) (was-read : sheet s ≡ read sh left) 
   unfolding lineAnswer lineThen judged lineJudged
   refused-other out i h = refused-place line i (go (readLine line) (rw was-read at h))
     where
-      go : (r : LineRead) → lineJudged r (lined.Refused notALine) (λ ds. linedAnswer (withRoom out (drawnWriting (sh .labels) ds))) ≡ lined.Refused notALine i
+      go : (r : LineRead) → lineJudged r (lined.Refused notALine) (λ ds. drawnAnswer (withRoom out (drawnWriting (sh .labels) ds))) ≡ lined.Refused notALine i
           → r ≡ offAt i
       go (offAt j) e = let same : j ≡ i = cc in ap offAt same
       go (draws ds) e = absurd (drawn-not-13 out (sh .labels) ds i e)
@@ -96,7 +96,7 @@ module _ (s left : List ℕ) (sh : Sheet) (was-read : sheet s ≡ read sh left)
 
   -- then what is to be written of them is written
   pub line-writes : (bs : List ℕ) → drawnWriting (sh .labels) (stepsDrawn t) ≡ writes tt bs → LineWrites s line bs
-  unfolding lineAnswer lineOutput withRoom linedAnswer after pick
+  unfolding lineAnswer lineOutput withRoom drawnAnswer after pick
   line-writes bs h =
       record {
         answer = λ out room. line-then _ _ ∙ rw (h, le-leb (length bs) (length out) room);
@@ -107,5 +107,5 @@ module _ (s left : List ℕ) (sh : Sheet) (was-read : sheet s ≡ read sh left)
 
   -- or they are refused
   pub line-refused : (n : ℕ) → drawnWriting (sh .labels) (stepsDrawn t) ≡ refuses n → LineRefused s line n 0
-  unfolding lineAnswer lineOutput withRoom linedAnswer after
+  unfolding lineAnswer lineOutput withRoom drawnAnswer after
   line-refused n h = record { answer = λ out. line-then _ _ ∙ rw h; output = λ out. line-then _ _ ∙ rw h }

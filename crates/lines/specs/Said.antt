@@ -17,7 +17,7 @@ use Rattle.meaning.specs.Written.{stepsBytes, patternBytes}
 use Rattle.meaning.specs.Notation.{Sketch, Drawn, stepsDrawn}
 use Rattle.meaning.specs.Lines.{LineRead, offAt, draws, readLine}
 use Rattle.meaning.specs.Calls.{Writing, refuses, writes, withRoom, after}
-use Rattle.meaning.specs.LineCalls.{knownDrawn, numberedStep, inOrder, drawnWriting, lineJudged, lineThen, linedAnswer, lineAnswer, lineOutput}
+use Rattle.meaning.specs.LineCalls.{knownDrawn, numberedStep, inOrder, drawnWriting, lineJudged, lineThen, drawnAnswer, lineAnswer, lineOutput}
 use Rattle.meaning.specs.declared.Step.{Step}
 use Rattle.meaning.specs.declared.Lined.{Lined}
 use Rattle.meaning.specs.declared.Lined.the-variants as lined
@@ -45,7 +45,7 @@ patternSaid known p = inOrder known (leb (p .count) mostSteps) (leb (length (kee
 -- of a line, with these labels
 abbrev pub LineGives : List (List ℕ) → List ℕ → List ℕ → Lined → List ℕ → Type 0
 LineGives ls line out r now =
-    (r ≡ lineJudged (readLine line) (lined.Refused notALine) (λ ds. linedAnswer (withRoom out (drawnWriting ls ds))))
+    (r ≡ lineJudged (readLine line) (lined.Refused notALine) (λ ds. drawnAnswer (withRoom out (drawnWriting ls ds))))
     × (now ≡ lineJudged (readLine line) (λ i. out) (λ ds. after out (withRoom out (drawnWriting ls ds))))
 
 -- ---- what was found
@@ -150,13 +150,13 @@ module _ (ls : List (List ℕ)) (line out : List ℕ) (f : Found) (found : Found
       let t = accepted-line line (d .0) (d .1) in
       drawn-formed (d .2) (t .1) (t .3) h
 
-  pub line-drawn : f .sound ≡ true → (r : Lined) (now : List ℕ) → Gives linedAnswer out (patternSaid (f .known) (f .pattern)) r now
+  pub line-drawn : f .sound ≡ true → (r : Lined) (now : List ℕ) → Gives drawnAnswer out (patternSaid (f .known) (f .pattern)) r now
       → LineGives ls line out r now
   unfolding lineJudged
   line-drawn e r now g =
       let d = found-drawn ls (readLine line) f found e in
       let t = accepted-line line (d .0) (d .1) in
-      rw (d .1) (gives-same linedAnswer out _ _ (drawn-said (d .2) (t .1) (t .3)) r now g)
+      rw (d .1) (gives-same drawnAnswer out _ _ (drawn-said (d .2) (t .1) (t .3)) r now g)
 
 -- ---- the call, from the place where judging the sheet ended: where the sheet is sound, and where it is refused
 

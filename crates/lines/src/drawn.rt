@@ -15,7 +15,7 @@ ghost use lib.ListN.{length};
 ghost use Rattle.base.specs.Lists.{keep};
 ghost use Rattle.meaning.specs.Numbers.{mostSteps};
 ghost use Rattle.meaning.specs.Sections.{isNearRoot};
-ghost use Rattle.meaning.specs.LineCalls.{linedAnswer};
+ghost use Rattle.meaning.specs.LineCalls.{drawnAnswer};
 ghost use Rattle.shapes.specs.Shapes.{stepsIn, WellFormed};
 ghost use Rattle.writing.specs.Gives.{Gives};
 ghost use Rattle.lines.specs.Said.{patternSaid};
@@ -57,7 +57,7 @@ fn near_roots(p: Pattern) -> usize
 // Writes the steps of a line: first all labels are judged, then the number of steps, the near steps with parent 0, and room.
 pub fn write_drawn(known: bool, p: Pattern, out: &mut [u8]) -> Lined
     requires { ⌜ (p .count ≤ mostSteps → WellFormed p) ⌝ }
-    ensures { λ r. ⌜ Gives linedAnswer (now (out .entry)) (patternSaid known p) r (now (out .exit)) ⌝ }
+    ensures { λ r. ⌜ Gives drawnAnswer (now (out .entry)) (patternSaid known p) r (now (out .exit)) ⌝ }
 {
     if !known {
         return refused(LABEL_UNKNOWN);

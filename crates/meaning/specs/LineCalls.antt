@@ -74,13 +74,13 @@ module _ {B : Type 0} where
       lineJudged (readLine line) (refuse notALine) (λ ds.
       next (drawnWriting (sh .labels) ds)))
 
-unfoldable pub linedAnswer : Writing (Unit {0}) → Lined
-linedAnswer (refuses n) = lined.Refused n 0
-linedAnswer (writes u bs) = lined.Wrote (length bs)
+unfoldable pub drawnAnswer : Writing (Unit {0}) → Lined
+drawnAnswer (refuses n) = lined.Refused n 0
+drawnAnswer (writes u bs) = lined.Wrote (length bs)
 
 -- room is judged last
 unfoldable pub lineAnswer : List ℕ → List ℕ → List ℕ → Lined
-lineAnswer out = lineThen lined.Refused (λ w. linedAnswer (withRoom out w))
+lineAnswer out = lineThen lined.Refused (λ w. drawnAnswer (withRoom out w))
 
 -- the output afterwards
 unfoldable pub lineOutput : List ℕ → List ℕ → List ℕ → List ℕ

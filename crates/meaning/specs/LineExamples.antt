@@ -21,7 +21,7 @@ use Rattle.meaning.specs.Notation.{Drawn, drawnSize, drawnFrom, stepsDra
 use Rattle.meaning.specs.Lines.{start, moved, stepFound, longerName, longerLast, longer, opensHere, closes, nameOr, slashOr, branchOr}
 use Rattle.meaning.specs.Lines.{afterName, nextIn, next, LineRead, offAt, draws, followed, allClosed, mayEnd, readFrom, readAny, within, readLine}
 use Rattle.meaning.specs.Calls.{judged, isSubscription, subscription, Writing, refuses, writes, withRoom, after}
-use Rattle.meaning.specs.LineCalls.{numberFrom, nameNumber, isKnown, knownDrawn, numberedStep, drawnWriting, inOrder, lineJudged, lineThen, linedAnswer}
+use Rattle.meaning.specs.LineCalls.{numberFrom, nameNumber, isKnown, knownDrawn, numberedStep, drawnWriting, inOrder, lineJudged, lineThen, drawnAnswer}
 use Rattle.meaning.specs.LineCalls.{lineAnswer, lineOutput, stepWritable, textWriting, onlyPattern, patternWriting, subscriptionWriting, outputAnswer}
 use Rattle.meaning.specs.Given.{Given, refusal, gives, LineValues, linedGiven, outputGiven}
 use Rattle.meaning.specs.declared.Lined.{Lined}
@@ -276,7 +276,7 @@ expectedLined = record {
 
 pub lined-apart : answersLined ≡ expectedLined
 unfolding
-    answersLined expectedLined sheetAB room lineAnswers lineOutputs lineGivens ascii pick some every keep flatMap barred start moved stepFound longerName longerLast longer opensHere closes nameOr slashOr branchOr afterName nextIn next followed allClosed mayEnd readFrom readAny within readLine go-on _>>=_ _>>_ give repeat unless byte bytes end axisNumber sameLabel label labels nearRoot isNearRoot sheet stepBytes stepsBytes judged withRoom after numberFrom nameNumber isKnown knownDrawn numberedStep drawnWriting inOrder lineJudged lineThen linedAnswer lineAnswer lineOutput refusal gives linedGiven
+    answersLined expectedLined sheetAB room lineAnswers lineOutputs lineGivens ascii pick some every keep flatMap barred start moved stepFound longerName longerLast longer opensHere closes nameOr slashOr branchOr afterName nextIn next followed allClosed mayEnd readFrom readAny within readLine go-on _>>=_ _>>_ give repeat unless byte bytes end axisNumber sameLabel label labels nearRoot isNearRoot sheet stepBytes stepsBytes judged withRoom after numberFrom nameNumber isKnown knownDrawn numberedStep drawnWriting inOrder lineJudged lineThen drawnAnswer lineAnswer lineOutput refusal gives linedGiven
 lined-apart = refl
 
 -- ---- patterns written
@@ -387,7 +387,7 @@ long =
 pub long-apart :
     long ≡ (lined.Refused 14 0 ∷ lined.Refused 13 1024 ∷ lined.Refused 13 1023 ∷ lined.Refused 13 1024 ∷ lined.Refused 13 1024 ∷ [])
 unfolding
-    long manyA sheetAB ascii pick some every barred start moved stepFound longerName longerLast longer opensHere nameOr slashOr branchOr afterName nextIn next followed allClosed mayEnd readFrom readAny within readLine go-on _>>=_ _>>_ give repeat unless byte bytes end sameLabel label labels sheet judged withRoom isKnown knownDrawn drawnWriting inOrder lineJudged lineThen linedAnswer lineAnswer
+    long manyA sheetAB ascii pick some every barred start moved stepFound longerName longerLast longer opensHere nameOr slashOr branchOr afterName nextIn next followed allClosed mayEnd readFrom readAny within readLine go-on _>>=_ _>>_ give repeat unless byte bytes end sameLabel label labels sheet judged withRoom isKnown knownDrawn drawnWriting inOrder lineJudged lineThen drawnAnswer lineAnswer
 long-apart = refl
 
 -- n times //a, each below the one before
@@ -408,5 +408,5 @@ many =
 
 pub many-apart : many ≡ (lined.Wrote 49 ∷ lined.Refused 14 0 ∷ lined.Refused 5 0 ∷ lined.Refused 14 0 ∷ [])
 unfolding
-    many manyA downA room sheetAB ascii pick some every keep flatMap barred start moved stepFound longerName longerLast longer opensHere closes nameOr slashOr branchOr afterName nextIn next followed allClosed mayEnd readFrom readAny within readLine go-on _>>=_ _>>_ give repeat unless byte bytes end axisNumber sameLabel label labels nearRoot isNearRoot sheet stepBytes stepsBytes judged withRoom isKnown knownDrawn numberedStep drawnWriting inOrder lineJudged lineThen linedAnswer lineAnswer
+    many manyA downA room sheetAB ascii pick some every keep flatMap barred start moved stepFound longerName longerLast longer opensHere closes nameOr slashOr branchOr afterName nextIn next followed allClosed mayEnd readFrom readAny within readLine go-on _>>=_ _>>_ give repeat unless byte bytes end axisNumber sameLabel label labels nearRoot isNearRoot sheet stepBytes stepsBytes judged withRoom isKnown knownDrawn numberedStep drawnWriting inOrder lineJudged lineThen drawnAnswer lineAnswer
 many-apart = refl
