@@ -1,9 +1,13 @@
-// The calls that the benchmark times beside those of the print server: covering, merging and building.
+// The calls that the benchmark times beside those of the print server: covering, merging, building, and lines of the notation
+// read and written.
 use meaning::Asked;
 use meaning::Built;
+use meaning::Lined;
 use meaning::Merged;
+use meaning::Output;
 ghost use Rattle.meaning.specs.Given.{byNumber};
 ghost use Rattle.meaning.specs.Promises.{CoversGives, MergeGives, BuildGives};
+ghost use Rattle.meaning.specs.Promises.{ReadLineGives, WritePatternGives, WriteSubscriptionGives};
 
 // Whether one subscription covers another: the number, and yes or no.
 #[repr(C)]
@@ -25,6 +29,21 @@ pub struct Merging {
 pub struct Building {
     pub number: u8,
     pub rounds: u64,
+    pub length: u64,
+}
+
+// A line that was read: the number, the place that comes with 13, and how many bytes were written.
+#[repr(C)]
+pub struct LineReading {
+    pub number: u8,
+    pub place: u64,
+    pub length: u64,
+}
+
+// A line that was written: the number, and how many bytes.
+#[repr(C)]
+pub struct LineWriting {
+    pub number: u8,
     pub length: u64,
 }
 
@@ -77,6 +96,59 @@ pub extern "C" fn bench_build(s: &[u8], limit: u16, out: &mut [u8]) -> Building
         Built::Wrote { length, rounds } => Building {
             number: 0,
             rounds: rounds as u64,
+            length: length as u64,
+        },
+    }
+}
+
+#[no_mangle]
+pub extern "C" fn bench_read_line(s: &[u8], line: &[u8], out: &mut [u8]) -> LineReading
+    ensures { λ r. ⌜ ReadLineGives (now (s .entry)) (now (line .entry)) (now (out .entry))
+        (byNumber (r .number) (record { place = r .place; length = r .length })) (now (out .exit)) ⌝ }
+{
+    match hub::read_line(s, line, out) {
+        Lined::Refused { number, place } => LineReading {
+            number: number,
+            place: place as u64,
+            length: 0,
+        },
+        Lined::Wrote(length) => LineReading {
+            number: 0,
+            place: 0,
+            length: length as u64,
+        },
+    }
+}
+
+#[no_mangle]
+pub extern "C" fn bench_write_pattern(s: &[u8], p: &[u8], out: &mut [u8]) -> LineWriting
+    ensures { λ r. ⌜ WritePatternGives (now (s .entry)) (now (p .entry)) (now (out .entry))
+        (byNumber (r .number) (r .length)) (now (out .exit)) ⌝ }
+{
+    match hub::write_pattern(s, p, out) {
+        Output::Refused(n) => LineWriting {
+            number: n,
+            length: 0,
+        },
+        Output::Wrote(length) => LineWriting {
+            number: 0,
+            length: length as u64,
+        },
+    }
+}
+
+#[no_mangle]
+pub extern "C" fn bench_write_subscription(s: &[u8], i: u64, out: &mut [u8]) -> LineWriting
+    ensures { λ r. ⌜ WriteSubscriptionGives (now (s .entry)) i (now (out .entry))
+        (byNumber (r .number) (r .length)) (now (out .exit)) ⌝ }
+{
+    match hub::write_subscription(s, i, out) {
+        Output::Refused(n) => LineWriting {
+            number: n,
+            length: 0,
+        },
+        Output::Wrote(length) => LineWriting {
+            number: 0,
             length: length as u64,
         },
     }
