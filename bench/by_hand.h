@@ -5,6 +5,7 @@
 #include "proved.h"
 
 enum { MOST_LABELS = 255, LONGEST_LABEL = 60, MOST_PATTERNS = 64, MOST_STEPS = 16, MOST_NODES = 1024 };
+enum { LONGEST_LINE = 1024 };
 enum { NEAR = 0, FAR = 1 };
 enum { ANY = 0 };
 
@@ -23,6 +24,9 @@ enum {
     NO_ROOM = 10,
     NOT_THERE = 11,
     NOT_FAIR = 12,
+    NOT_A_LINE = 13,
+    LABEL_UNKNOWN = 14,
+    NOT_WRITABLE = 15,
 };
 
 typedef struct {
@@ -73,6 +77,9 @@ uint8_t read_sheet(Sheet *sheet, const uint8_t *bytes, size_t length);
 uint8_t read_table(Table *table, const Sheet *sheet, const uint8_t *bytes, size_t length);
 uint8_t read_document(Document *document, const Sheet *sheet, const uint8_t *bytes, size_t length);
 
+// reading.c: the same of a pattern that is all of the bytes.
+uint8_t read_only_pattern(Pattern *pattern, const Sheet *sheet, const uint8_t *bytes, size_t length);
+
 // reading.c: writes a pattern's steps after their count, and gives how many bytes that took.
 size_t write_pattern(uint8_t *to, const Pattern *pattern);
 
@@ -94,6 +101,9 @@ bool covers(const Pattern *a, const Pattern *b);
 // merging.c: writes the merge of p with q, and says whether it was clipped.
 bool merge(Pattern *merged, const Pattern *p, const Pattern *q);
 
+// lines.c: the bytes that no label of a line has.
+extern const bool barred[256];
+
 uint8_t hand_sheet_check(const uint8_t *sheet, size_t sheet_length);
 Routed hand_plain_route(const uint8_t *sheet, size_t sheet_length, const uint8_t *document, size_t document_length);
 Tabled hand_table_route(const uint8_t *sheet, size_t sheet_length, const uint8_t *table, size_t table_length,
@@ -103,5 +113,11 @@ Asked hand_wanted(const uint8_t *sheet, size_t sheet_length, const uint8_t *tabl
 Asked hand_covers(const uint8_t *sheet, size_t sheet_length, uint64_t i, uint64_t j);
 Merged hand_merge(const uint8_t *sheet, size_t sheet_length, uint64_t i, uint64_t j, uint8_t *out, size_t out_length);
 Built hand_build(const uint8_t *sheet, size_t sheet_length, uint16_t limit, uint8_t *out, size_t out_length);
+LineRead hand_read_line(const uint8_t *sheet, size_t sheet_length, const uint8_t *line, size_t line_length,
+                        uint8_t *out, size_t out_length);
+LineWritten hand_write_pattern(const uint8_t *sheet, size_t sheet_length, const uint8_t *pattern,
+                               size_t pattern_length, uint8_t *out, size_t out_length);
+LineWritten hand_write_subscription(const uint8_t *sheet, size_t sheet_length, uint64_t i, uint8_t *out,
+                                    size_t out_length);
 
 #endif

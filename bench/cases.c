@@ -57,7 +57,7 @@ static void add_route(Call call, Case *to, unsigned nodes, unsigned subscription
         table = built_table(sheet, (uint16_t)(subscriptions * shape.steps / 2));
     for (unsigned i = 0; i < DOCUMENTS; i++) {
         Part document = random_document(LABELS, nodes);
-        add_question(to, (Question){call, sheet, table, document, 0, 0, 0});
+        add_question(to, (Question){call, .sheet = sheet, .table = table, .document = document});
     }
 }
 

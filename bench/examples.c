@@ -4,7 +4,7 @@
 static const Side *side;
 static unsigned asked, failed;
 
-static void expect(const char *name, bool held)
+void expect(const char *name, bool held)
 {
     asked++;
     if (held)
@@ -13,8 +13,7 @@ static void expect(const char *name, bool held)
     printf("%s: the example does not hold: %s\n", side->name, name);
 }
 
-// Are the lent bytes this part, and as found behind it?
-static bool wrote(const Answer *answer, Part part)
+bool wrote(const Answer *answer, Part part)
 {
     if (answer->length != part.length || memcmp(answer->out, part.at, part.length) != 0)
         return false;
@@ -336,6 +335,7 @@ unsigned failed_examples(const Side *of, unsigned *count)
     asked_for(rose);
     wanted_or_not(rose);
     told_apart();
+    ask_line_examples(of);
     *count = asked;
     return failed;
 }

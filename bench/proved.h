@@ -30,6 +30,16 @@ typedef struct {
     uint64_t rounds, length;
 } Built;
 
+typedef struct {
+    uint8_t number;
+    uint64_t place, length;
+} LineRead;
+
+typedef struct {
+    uint8_t number;
+    uint64_t length;
+} LineWritten;
+
 uint8_t hub_sheet_check(const uint8_t *sheet, size_t sheet_length);
 Routed hub_plain_route(const uint8_t *sheet, size_t sheet_length, const uint8_t *document, size_t document_length);
 Tabled hub_table_route(const uint8_t *sheet, size_t sheet_length, const uint8_t *table, size_t table_length,
@@ -39,5 +49,11 @@ Asked hub_wanted(const uint8_t *sheet, size_t sheet_length, const uint8_t *table
 Asked bench_covers(const uint8_t *sheet, size_t sheet_length, uint64_t i, uint64_t j);
 Merged bench_merge(const uint8_t *sheet, size_t sheet_length, uint64_t i, uint64_t j, uint8_t *out, size_t out_length);
 Built bench_build(const uint8_t *sheet, size_t sheet_length, uint16_t limit, uint8_t *out, size_t out_length);
+LineRead bench_read_line(const uint8_t *sheet, size_t sheet_length, const uint8_t *line, size_t line_length,
+                         uint8_t *out, size_t out_length);
+LineWritten bench_write_pattern(const uint8_t *sheet, size_t sheet_length, const uint8_t *pattern,
+                                size_t pattern_length, uint8_t *out, size_t out_length);
+LineWritten bench_write_subscription(const uint8_t *sheet, size_t sheet_length, uint64_t i, uint8_t *out,
+                                     size_t out_length);
 
 #endif

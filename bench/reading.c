@@ -115,6 +115,13 @@ static uint8_t read_pattern(Bytes *bytes, Pattern *pattern, unsigned labels)
     return DONE;
 }
 
+uint8_t read_only_pattern(Pattern *pattern, const Sheet *sheet, const uint8_t *from, size_t length)
+{
+    Bytes bytes = {from, from + length};
+    uint8_t number = read_pattern(&bytes, pattern, sheet->labels.count);
+    return number == DONE ? at_end(&bytes) : number;
+}
+
 uint8_t read_sheet(Sheet *sheet, const uint8_t *from, size_t length)
 {
     Bytes bytes = {from, from + length};

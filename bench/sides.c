@@ -3,9 +3,11 @@
 #include "by_hand.h"
 
 const Side sides[] = {
-    {"by hand", hand_sheet_check, hand_plain_route, hand_table_route, hand_wanted, hand_covers, hand_merge, hand_build},
+    {"by hand", hand_sheet_check, hand_plain_route, hand_table_route, hand_wanted, hand_covers, hand_merge, hand_build,
+     hand_read_line, hand_write_pattern, hand_write_subscription},
 #ifndef BY_HAND_ONLY
-    {"proved", hub_sheet_check, hub_plain_route, hub_table_route, hub_wanted, bench_covers, bench_merge, bench_build},
+    {"proved", hub_sheet_check, hub_plain_route, hub_table_route, hub_wanted, bench_covers, bench_merge, bench_build,
+     bench_read_line, bench_write_pattern, bench_write_subscription},
 #endif
 };
 const unsigned side_count = sizeof sides / sizeof sides[0];
@@ -18,6 +20,9 @@ const char *const call_names[] = {
     [COVERS] = "covering",
     [MERGE] = "merging",
     [BUILD] = "building",
+    [READ_LINE] = "reading a line",
+    [WRITE_PATTERN] = "writing a pattern",
+    [WRITE_SUBSCRIPTION] = "writing a subscription",
 };
 
 static void ask_route(Answer *answer, const Side *side, const Question *q)
@@ -45,7 +50,7 @@ static void ask_wanted(Answer *answer, const Side *side, const Question *q)
 
 static void ask_merge(Answer *answer, const Side *side, const Question *q)
 {
-    Merged r = side->merge(q->sheet.at, q->sheet.length, q->i, q->j, answer->out, OUT_ROOM);
+    Merged r = side->merge(q->sheet.at, q->sheet.length, q->i, q->j, answer->out, OUT_ROOM - q->withheld);
     answer->number = r.number;
     answer->value = r.clipped;
     answer->length = r.length;
@@ -53,9 +58,30 @@ static void ask_merge(Answer *answer, const Side *side, const Question *q)
 
 static void ask_build(Answer *answer, const Side *side, const Question *q)
 {
-    Built r = side->build(q->sheet.at, q->sheet.length, q->limit, answer->out, OUT_ROOM);
+    Built r = side->build(q->sheet.at, q->sheet.length, q->limit, answer->out, OUT_ROOM - q->withheld);
     answer->number = r.number;
     answer->count = r.rounds;
+    answer->length = r.length;
+}
+
+static void ask_read_line(Answer *answer, const Side *side, const Question *q)
+{
+    LineRead r = side->read_line(q->sheet.at, q->sheet.length, q->line.at, q->line.length, answer->out,
+                                 OUT_ROOM - q->withheld);
+    answer->number = r.number;
+    answer->value = r.place;
+    answer->length = r.length;
+}
+
+static void ask_write_line(Answer *answer, const Side *side, const Question *q)
+{
+    size_t room = OUT_ROOM - q->withheld;
+    LineWritten r;
+    if (q->call == WRITE_PATTERN)
+        r = side->write_pattern(q->sheet.at, q->sheet.length, q->pattern.at, q->pattern.length, answer->out, room);
+    else
+        r = side->write_subscription(q->sheet.at, q->sheet.length, q->i, answer->out, room);
+    answer->number = r.number;
     answer->length = r.length;
 }
 
@@ -87,6 +113,13 @@ void ask(Answer *answer, const Side *side, const Question *q)
         break;
     case BUILD:
         ask_build(answer, side, q);
+        break;
+    case READ_LINE:
+        ask_read_line(answer, side, q);
+        break;
+    case WRITE_PATTERN:
+    case WRITE_SUBSCRIPTION:
+        ask_write_line(answer, side, q);
         break;
     }
 }

@@ -45,7 +45,7 @@ static Question deepest(Call call)
         table = end_part();
         document = random_document(LABELS, 1024);
     }
-    return (Question){call, sheet, table, document, 0, 1, 0};
+    return (Question){call, .sheet = sheet, .table = table, .document = document, .i = 0, .j = 1};
 }
 
 const char stack_title[] = "Stack for one call: 64 chains of 16 far steps, 1,024 nodes";
