@@ -19,12 +19,12 @@ enum { FEW_LABELS = 3, LABELS = 8, DOCUMENTS = 4, PAIRS = 16 };
 
 // ---- putting sections, cases and questions
 
-static void add_section(const char *title, bool grows)
+void add_section(const char *title, bool grows)
 {
     sections[section_count++] = (Section){title, grows, 0, cases + case_count};
 }
 
-static Case *add_case(const char *what, unsigned number, const char *of)
+Case *add_case(const char *what, unsigned number, const char *of)
 {
     if (case_count == MOST_CASES) {
         printf("cases.c has no room for another case\n");
@@ -37,7 +37,7 @@ static Case *add_case(const char *what, unsigned number, const char *of)
     return added;
 }
 
-static void add_question(Case *to, Question question)
+void add_question(Case *to, Question question)
 {
     if (question_count == MOST_QUESTIONS) {
         printf("cases.c has no room for another question\n");

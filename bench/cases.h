@@ -24,4 +24,10 @@ extern unsigned section_count;
 
 void make_cases(void);
 
+// Puts a section; a case into the last section, named by what it is, and by a number where `of` says of what; a
+// question into the last case.
+void add_section(const char *title, bool grows);
+Case *add_case(const char *what, unsigned number, const char *of);
+void add_question(Case *to, Question question);
+
 #endif

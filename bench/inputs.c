@@ -103,6 +103,23 @@ Part random_sheet(unsigned labels, unsigned patterns, Shape shape)
     return end_part();
 }
 
+Part long_label_sheet(Lengths lengths, unsigned labels, Shape shape)
+{
+    begin_part();
+    put(labels);
+    for (unsigned i = 0; i < labels; i++) {
+        unsigned length = lengths.shortest + below(lengths.longest + 1 - lengths.shortest);
+        put(length);
+        for (unsigned k = 2; k < length; k++)
+            put('a');
+        put('0' + i / 16);
+        put('0' + i % 16);
+    }
+    put(1);
+    put_steps(random_steps(labels, shape));
+    return end_part();
+}
+
 Part covered_sheet(unsigned labels, Shape shape)
 {
     Steps steps = random_steps(labels, shape);

@@ -16,6 +16,12 @@ void start_random(uint64_t seed);
 
 Part random_sheet(unsigned labels, unsigned patterns, Shape shape);
 
+// A sheet of one pattern and so many labels, which have these lengths and are alike but for their last two bytes.
+typedef struct {
+    unsigned shortest, longest;
+} Lengths;
+Part long_label_sheet(Lengths lengths, unsigned labels, Shape shape);
+
 // A sheet of two patterns: a random one as number 1, and as number 0 a looser copy, which covers it.
 Part covered_sheet(unsigned labels, Shape shape);
 

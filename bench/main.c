@@ -1,6 +1,9 @@
-// The benchmark: the examples, then the same answers from both sides on every input, then the times of both and the stack they take.
-// With the word --compare it ends after the answers; with --only WORDS it reports those sections whose titles hold the words.
+// The benchmark: the examples, then the same answers from both sides on every input, refused lines among them, then the
+// times of both and the stack they take. With the word --compare it ends after the answers; with --only WORDS it reports
+// those sections whose titles hold the words.
 #include "examples.h"
+#include "line_cases.h"
+#include "line_questions.h"
 #include "report.h"
 #include "stack.h"
 #include "tables.h"
@@ -36,20 +39,27 @@ static void complain(const char *of, const char *what, const Answer *first, cons
         print_answer(&sides[1], other);
 }
 
-static void check_question(const char *of, const Question *question)
+// What both sides answer; NULL where they differ.
+static const Answer *check_alike(const char *of, const Question *question)
 {
     static Answer first, other;
     checked++;
     ask_afresh(&first, &sides[0], question);
-    if (side_count > 1) {
-        ask_afresh(&other, &sides[1], question);
-        if (!same(&first, &other)) {
-            complain(of, "the answers, or the bytes written, differ", &first, &other);
-            return;
-        }
-    }
-    if (first.number != 0)
-        complain(of, "the input is refused", &first, NULL);
+    if (side_count == 1)
+        return &first;
+    ask_afresh(&other, &sides[1], question);
+    if (same(&first, &other))
+        return &first;
+    complain(of, "the answers, or the bytes written, differ", &first, &other);
+    return NULL;
+}
+
+// What is timed is not refused.
+static void check_question(const char *of, const Question *question)
+{
+    const Answer *answer = check_alike(of, question);
+    if (answer != NULL && answer->number != 0)
+        complain(of, "the input is refused", answer, NULL);
 }
 
 static void check_case(const char *title, const Case *of)
@@ -79,6 +89,7 @@ static void check_cases(void)
     check_pairs(&rares);
     check_pairs(&wanteds);
     check_case("Building", &tables);
+    check_line_questions(check_alike);
     if (wrong == 0)
         return;
     printf("bench: of %u answers %u differ or are refusals\n", checked, wrong);
@@ -119,6 +130,7 @@ int main(int count, char **words)
     check_examples();
     make_cases();
     make_pairs();
+    make_line_cases();
     check_cases();
     if (count == 2 && strcmp(words[1], "--compare") == 0) {
         printf("bench: %u answers agree\n", checked);
