@@ -14,6 +14,7 @@ stepBytes s = s .parent ∷ s .axis ∷ s .label ∷ []
 unfoldable pub stepsBytes : List Step → List ℕ
 stepsBytes ss = length ss ∷ flatMap stepBytes ss
 
+-- those of a pattern
 unfoldable pub patternBytes : Forest → List ℕ
 patternBytes f = size f ∷ flatMap stepBytes (stepsOf f)
 
