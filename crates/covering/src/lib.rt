@@ -1,46 +1,20 @@
 // Whether one pattern covers another: whether its steps can be laid onto the other's.
+pub mod steps; // steps.rt: where one step may lie, by itself
+
 use meaning::MOST_STEPS;
-use meaning::Step;
 use shapes::Pattern;
+use steps::any_or_same;
+use steps::may_lie_below;
 ghost use mathlib.Core.Path.{_≡_};
 ghost use Prim.Native.Nat.{_≤_, _<_};
 ghost use lib.ListN.{length, set};
-ghost use Rattle.meaning.specs.Forest.{axisOf};
-ghost use Rattle.meaning.specs.Satisfying.{anyOrSame};
-ghost use Rattle.meaning.specs.Covering.{mayLie, covers};
+ghost use Rattle.meaning.specs.Covering.{covers};
 ghost use Rattle.shapes.specs.Shapes.{patternOf, stepsIn, WellFormed};
-ghost use Rattle.covering.specs.Questions.{mayLieBelow, childrenLie, someFits, liesAt};
+ghost use Rattle.covering.specs.Questions.{childrenLie, someFits, liesAt};
 ghost use Rattle.covering.specs.PairNotes.{pairCount, PairOfSteps, cellOf, noteOf, knownAt, Noted};
 
 // Pairs of steps, one of each of two patterns.
 pub const PAIRS: usize = MOST_STEPS * MOST_STEPS;
-
-// The label is any, or the same.
-fn any_or_same(l: u8, m: u8) -> bool
-    ensures { λ r. ⌜ r ≡ anyOrSame l m ⌝ }
-{
-    l == 0 || l == m
-}
-
-// Step s may lie on step t: a near step only on a near one, a step labelled any on any, another only on the same label.
-fn may_lie(s: Step, t: Step) -> bool
-    ensures { λ r. ⌜ r ≡ mayLie (axisOf (s .axis)) (s .label) (axisOf (t .axis)) (t .label) ⌝ }
-{
-    if s.axis == 0 && t.axis != 0 {
-        return false;
-    }
-    any_or_same(s.label, t.label)
-}
-
-// Step s may lie on step t, which is below step w: a near step only on a child of w.
-fn may_lie_below(s: Step, w: usize, t: Step) -> bool
-    ensures { λ r. ⌜ r ≡ mayLieBelow s w t ⌝ }
-{
-    if s.axis == 0 && t.parent as usize != w {
-        return false;
-    }
-    may_lie(s, t)
-}
 
 // The cell of the note about a pair of steps.
 fn cell(v: usize, w: usize) -> usize

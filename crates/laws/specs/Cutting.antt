@@ -11,7 +11,8 @@ use Rattle.meaning.specs.Forest.{Axis, Forest, none, step, size, stepsFrom, ste
 use Rattle.meaning.specs.Covering.{lays, covers}
 use Rattle.meaning.specs.Building.{cut}
 use Rattle.laws.specs.Bridge.{length-stepsFrom}
-use Rattle.laws.specs.Laying.{here, after, mayLie-refl, lays-step, lays-refl, lays-weaken}
+use Rattle.laws.specs.StepPlaces.{here, after}
+use Rattle.laws.specs.Laying.{mayLie-refl, lays-step, lays-refl, lays-weaken}
 
 -- a pattern without its last step covers it
 pub cut-covers : (f : Forest) → covers (cut f) f ≡ true

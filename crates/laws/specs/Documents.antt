@@ -17,7 +17,7 @@ use Rattle.meaning.specs.declared.Step.{Step}
 use Rattle.laws.specs.Rising.{Rising}
 use Rattle.laws.specs.Children.{childrenOf, children-of-root}
 use Rattle.laws.specs.NumberedPlaces.{passesAt, finds-spot, spot-found}
-use Rattle.laws.specs.Laying.{lays-trans}
+use Rattle.laws.specs.CoversOfCovers.{lays-trans}
 
 -- a node as a near step
 unfoldable pub nearStep : Node → Step

@@ -23,7 +23,8 @@ use Rattle.meaning.specs.Covering.{covers}
 use Rattle.meaning.specs.Merging.{merge}
 use Rattle.meaning.specs.Building.{Pair, noEntry, entryAt, entriesFrom, joinAt, cut, settle, round, build}
 use Rattle.meaning.specs.Fair.{isMember, hasMember, isPeopled, isWithin, fair}
-use Rattle.laws.specs.Laying.{covers-refl, covers-trans}
+use Rattle.laws.specs.Laying.{covers-refl}
+use Rattle.laws.specs.CoversOfCovers.{covers-trans}
 use Rattle.laws.specs.Cutting.{cut-covers}
 use Rattle.laws.specs.MergeCovers.{merge-covers-first, merge-covers-second}
 use Rattle.laws.specs.MemberBits.{member-or, member-none, member-alone, or-peopled}

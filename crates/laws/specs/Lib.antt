@@ -10,7 +10,9 @@ pub mod Below
 pub mod Children
 pub mod NumberedPlaces
 -- laying, and satisfying as laying
+pub mod StepPlaces
 pub mod Laying
+pub mod CoversOfCovers
 pub mod Layings
 pub mod Documents
 pub mod Cutting

@@ -9,7 +9,8 @@ use Rattle.meaning.specs.Forest.{Axis, near, far, isNear, Forest, none, step}
 use Rattle.meaning.specs.Satisfying.{anyOrSame}
 use Rattle.meaning.specs.Covering.{mayLie, lays, covers}
 use Rattle.meaning.specs.Merging.{alone, joined, Building, nothing, Body, commonLabel, bodyOf, through, mergeWithin}
-use Rattle.laws.specs.Laying.{here, mayLie-refl, lays-step, lays-refl}
+use Rattle.laws.specs.StepPlaces.{here}
+use Rattle.laws.specs.Laying.{mayLie-refl, lays-step, lays-refl}
 use Rattle.laws.specs.Walking.{Under, itself, place-under, place-among, EachPair, through-keeps}
 use Rattle.laws.specs.Choosing.{body-keeps, merge-keeps}
 use Rattle.laws.specs.Offering.{AllKept, nothing-all, meet-all, candidateOf}

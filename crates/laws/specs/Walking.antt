@@ -4,7 +4,7 @@ use mathlib.Core.Path.{_≡_}
 use mathlib.Core.Bool.{Bool, true, false, _&&_, false≢true}
 use Rattle.meaning.specs.Forest.{Axis, near, far, isNear, Forest, none, step}
 use Rattle.meaning.specs.Merging.{Building, nothing, bodyOf, meet, meetAt, across, through}
-use Rattle.laws.specs.Laying.{Place, after, below}
+use Rattle.laws.specs.StepPlaces.{Place, after, below}
 
 -- the steps of a forest stand below the place whose child steps are `whole`: `child` says that they are among those
 pub data Under (whole : Forest) : Bool → Forest → Type 0 where

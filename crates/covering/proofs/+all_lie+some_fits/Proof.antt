@@ -17,7 +17,7 @@ use Rattle.covering.proofs.+all_lie+some_fits.Lts-all_lie as all-lie-lt
 use Rattle.covering.proofs.some_fits.Reads as some-fits
 use Rattle.covering.proofs.some_fits.Kinds as some-fits-kinds
 use Rattle.covering.proofs.+all_lie+some_fits.Lts-some_fits as some-fits-lts
-use Rattle.covering.proofs.may_lie_below.Reads as may-lie-below
+use Rattle.covering.proofs.steps.may_lie_below.Reads as may-lie-below
 use Rattle.covering.proofs.known_at.Reads as known-at
 use Rattle.covering.proofs.note.Reads as note
 use Rattle.covering.proofs.+all_lie+some_fits.{statement}

@@ -1,11 +1,11 @@
--- `may_lie_below` meets its contract: a near step elsewhere than at a child, or what `may_lie` says.
+-- `steps::may_lie_below` meets its contract: a near step elsewhere than at a child, or what `may_lie` says.
 use mathlib.Core.Path.{_∙_}
 use mathlib.Core.Logic.{⊎-elim, inl, inr}
 use Rattle.covering.specs.Questions.{mayLieBelow}
 use Rattle.covering.specs.Tests.{near-elsewhere, within-reach}
 use borrow.Author.Needs.{needs}
-use Rattle.covering.proofs.may_lie_below.Statement.{statement}
-use Rattle.covering.proofs.may_lie_below.Tie as tie
+use Rattle.covering.proofs.steps.may_lie_below.Statement.{statement}
+use Rattle.covering.proofs.steps.may_lie_below.Tie as tie
 
 returns : tie.Need-returns
 unfolding mayLieBelow

@@ -1,8 +1,8 @@
--- `any_or_same` meets its contract.
+-- `steps::any_or_same` meets its contract.
 use borrow.Author.Tests.{eq-eqb, ne-eqb}
 use Rattle.meaning.specs.Satisfying.{anyOrSame}
-use Rattle.covering.proofs.any_or_same.Statement.{statement}
-use Rattle.covering.proofs.any_or_same.Tie as tie
+use Rattle.covering.proofs.steps.any_or_same.Statement.{statement}
+use Rattle.covering.proofs.steps.any_or_same.Tie as tie
 
 returns : tie.Need-returns
 unfolding anyOrSame

@@ -1,10 +1,10 @@
--- `may_lie` meets its contract: a near step on a far one, or what the labels say.
+-- `steps::may_lie` meets its contract: a near step on a far one, or what the labels say.
 use mathlib.Core.Path.{_∙_}
 use mathlib.Core.Logic.{⊎-elim, inl, inr}
 use Rattle.covering.specs.Tests.{near-on-far, labels-decide}
 use borrow.Author.Needs.{needs}
-use Rattle.covering.proofs.may_lie.Statement.{statement}
-use Rattle.covering.proofs.may_lie.Tie as tie
+use Rattle.covering.proofs.steps.may_lie.Statement.{statement}
+use Rattle.covering.proofs.steps.may_lie.Tie as tie
 
 returns : tie.Need-returns
 returns c =
