@@ -10,6 +10,7 @@ use Rattle.meaning.specs.Satisfying.{anyOrSame}
 use Rattle.meaning.specs.Covering.{stepAt, fitsAt, lays}
 use Rattle.meaning.specs.declared.Step.{Step}
 use Rattle.laws.specs.Children.{childrenFrom, childrenOf}
+use Rattle.laws.specs.Laying.{leafWith}
 use Rattle.shapes.specs.Shapes.{stepsIn, WellFormed}
 use Rattle.shapes.specs.Steps.{stepIn, step-at, step-number, child-here, child-not, children-end}
 use Rattle.shapes.specs.declared.Pattern.{Pattern}
@@ -63,28 +64,29 @@ module _ {p : Pattern} {v : ℕ} {b : List Step} {w k : ℕ} (i : LayingChildren
   unfolding restLie lays
   all-lay h = rw (children-end p (i .sound) v k h) at (i .rest)
 
--- some place from place u on, below step w, fits step s, which is number k of A
-unfoldable pub restFits : List Step → ℕ → Step → List Step → ℕ → ℕ → Bool
-restFits a k s b w u = overFrom (triesStep (axisOf (s .axis)) (fitsStep a k s) w) false b w u
+-- some place from place u on, below step w, fits step s, which is number k of A, a starred leaf or not
+unfoldable pub restFits : List Step → ℕ → Step → Bool → List Step → ℕ → ℕ → Bool
+restFits a k s starred b w u = overFrom (triesStep (axisOf (s .axis)) (fitsStep a k s starred) w) false b w u
 
 -- the search below step w has come to place u: the places from there on answer what all answer
-pub record Fitting (a : List Step) (k : ℕ) (s : Step) (p : Pattern) (w u : ℕ) : Type 0 where
+pub record Fitting (a : List Step) (k : ℕ) (s : Step) (starred : Bool) (p : Pattern) (w u : ℕ) : Type 0 where
   pub sound : WellFormed p
   pub from : w ≤ u
   pub upto : u ≤ p .count
-  pub rest : restFits a k s (stepsIn p) w u ≡ someFits a k (stepsIn p) w
+  pub rest : restFits a k s starred (stepsIn p) w u ≡ someFits a k (stepsIn p) w
 
 -- it starts right after w
-pub search-starts : (a : List Step) (k : ℕ) (s : Step) (p : Pattern) (w : ℕ) → WellFormed p → w ≤ p .count → s ≡ stepAt a k → Fitting a k s p w w
+pub search-starts : (a : List Step) (k : ℕ) (s : Step) (starred : Bool) (p : Pattern) (w : ℕ) → WellFormed p → w ≤ p .count
+    → s ≡ stepAt a k → starred ≡ leafWith (stepAt a k .label) (childrenOf a k) → Fitting a k s starred p w w
 unfolding restFits someFits
-search-starts a k s p w sound h e = record {
+search-starts a k s starred p w sound h e f = record {
   sound = sound;
   from = omega arith;
   upto = h;
-  rest = over-starts _ _ w p sound h ∙ rw e (place-found (fitsStep a k (stepAt a k)) w (axisOf (stepAt a k .axis)) (childrenOf (stepsIn p) w));
+  rest = over-starts _ _ w p sound h ∙ rw (e, f) (place-found (fitsStep a k (stepAt a k) _) w (axisOf (stepAt a k .axis)) (childrenOf (stepsIn p) w));
 }
 
-module _ {a : List Step} {k : ℕ} {s : Step} {p : Pattern} {w u : ℕ} (i : Fitting a k s p w u) where
+module _ {a : List Step} {k : ℕ} {s : Step} {starred : Bool} {p : Pattern} {w u : ℕ} (i : Fitting a k s starred p w u) where
   -- the block below w ends
   pub block-ends : u < p .count → stepIn p u .parent < w → false ≡ someFits a k (stepsIn p) w
   unfolding restFits
@@ -97,18 +99,18 @@ module _ {a : List Step} {k : ℕ} {s : Step} {p : Pattern} {w u : ℕ} (i : Fit
 
   module _ (h : u < p .count) (l : w ≤ stepIn p u .parent) where
     -- at a step of w's block
-    rest-place : restFits a k s (stepsIn p) w u
-        ≡ ((mayLieBelow s w (stepIn p u) && childrenLie a k (stepsIn p) (u + 1)) || restFits a k s (stepsIn p) w (u + 1))
+    rest-place : restFits a k s starred (stepsIn p) w u
+        ≡ ((mayLieBelow s starred w (stepIn p u) && childrenLie a k (stepsIn p) (u + 1)) || restFits a k s starred (stepsIn p) w (u + 1))
     unfolding restFits triesStep mayLieBelow childrenLie fitsStep fitsAt
     rest-place = over-step _ _ w p (i .sound) u h l ∙ rw and-assoc
 
-    module _ {m r : Bool} (may : m ≡ mayLieBelow s w (stepIn p u)) (is : r ≡ (m && childrenLie a k (stepsIn p) (u + 1))) where
+    module _ {m r : Bool} (may : m ≡ mayLieBelow s starred w (stepIn p u)) (is : r ≡ (m && childrenLie a k (stepsIn p) (u + 1))) where
       -- the place fits
       pub place-fits : r ≡ true → true ≡ someFits a k (stepsIn p) w
       place-fits t = sym (rest-place ∙ rw (← may, ← is, t)) ∙ i .rest
 
       -- it doesn't
-      pub place-doesn't : r ≡ false → Fitting a k s p w (u + 1)
+      pub place-doesn't : r ≡ false → Fitting a k s starred p w (u + 1)
       place-doesn't t = record {
         sound = i .sound;
         from = omega (arith, i .from);

@@ -11,20 +11,20 @@ use Rattle.meaning.specs.Satisfying.{anyOrSame}
 use Rattle.meaning.specs.Covering.{mayLie}
 use Rattle.covering.specs.PlaceSearch.{inReach}
 
--- a near step doesn't lie on a far one
-pub near-on-far : (x l y m : ℕ) → x ≡ 0 → not (eqb y 0) ≡ true → false ≡ mayLie (axisOf x) l (axisOf y) m
+-- a near step lies on a far one exactly if it is a starred leaf and its label fits
+pub near-on-far : (x l y m : ℕ) (starred : Bool) → x ≡ 0 → not (eqb y 0) ≡ true → (starred && anyOrSame l m) ≡ mayLie (axisOf x) l starred (axisOf y) m
 unfolding mayLie axisOf isNear
-near-on-far zero l zero m e f = absurd (eqb-false 0 0 (not-true (eqb 0 0) f) refl)
-near-on-far zero l (suc y) m e f = refl
-near-on-far (suc x) l y m e f = absurd (omega arith)
+near-on-far zero l zero m starred e f = absurd (eqb-false 0 0 (not-true (eqb 0 0) f) refl)
+near-on-far zero l (suc y) m starred e f = refl
+near-on-far (suc x) l y m starred e f = absurd (omega arith)
 
 -- otherwise the labels decide
-pub labels-decide : (x l y m : ℕ) → (not (eqb y 0) ≡ false) ⊎ (x ≡ 0 → ⊥) → anyOrSame l m ≡ mayLie (axisOf x) l (axisOf y) m
+pub labels-decide : (x l y m : ℕ) (starred : Bool) → (not (eqb y 0) ≡ false) ⊎ (x ≡ 0 → ⊥) → anyOrSame l m ≡ mayLie (axisOf x) l starred (axisOf y) m
 unfolding mayLie axisOf isNear
-labels-decide zero l zero m h = refl
-labels-decide zero l (suc y) m (inl e) = absurd (omega (arith, eqb-true (suc y) 0 (not-false (eqb (suc y) 0) e)))
-labels-decide zero l (suc y) m (inr n) = absurd (n refl)
-labels-decide (suc x) l y m h = refl
+labels-decide zero l zero m starred h = refl
+labels-decide zero l (suc y) m starred (inl e) = absurd (omega (arith, eqb-true (suc y) 0 (not-false (eqb (suc y) 0) e)))
+labels-decide zero l (suc y) m starred (inr n) = absurd (n refl)
+labels-decide (suc x) l y m starred h = refl
 
 -- a near step looks at children alone
 pub near-elsewhere : (x w p : ℕ) (b : Bool) → x ≡ 0 → not (eqb p w) ≡ true → false ≡ (inReach (axisOf x) w p && b)

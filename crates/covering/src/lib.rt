@@ -5,6 +5,7 @@ use meaning::MOST_STEPS;
 use shapes::Pattern;
 use steps::any_or_same;
 use steps::may_lie_below;
+use steps::starred_leaf;
 ghost use mathlib.Core.Path.{_≡_};
 ghost use Prim.Native.Nat.{_≤_, _<_};
 ghost use lib.ListN.{length, set};
@@ -66,6 +67,7 @@ fn some_fits(a: Pattern, k: usize, b: Pattern, w: usize, notes: &mut [u8; PAIRS]
     ensures { λ r. ⌜ (r ≡ someFits (stepsIn a) k (stepsIn b) w) × Noted a b (now (notes .exit)) ⌝ }
 {
     let s = a.steps[k - 1];
+    let starred = starred_leaf(a, k);
     let mut u = w;
     while u < b.count {
         let t = b.steps[u];
@@ -73,7 +75,7 @@ fn some_fits(a: Pattern, k: usize, b: Pattern, w: usize, notes: &mut [u8; PAIRS]
             return false;
         }
         u += 1;
-        let known = known_at(may_lie_below(s, w, t), k, u, notes);
+        let known = known_at(may_lie_below(s, starred, w, t), k, u, notes);
         if known == 1 {
             return true;
         }

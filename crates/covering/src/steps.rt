@@ -1,9 +1,14 @@
 // Where a step of one pattern may lie on another's, by itself: its child steps aside.
 use meaning::Step;
+use shapes::Pattern;
+ghost use Prim.Native.Nat.{_≤_};
 ghost use mathlib.Core.Path.{_≡_};
-ghost use Rattle.meaning.specs.Forest.{axisOf};
+ghost use Rattle.meaning.specs.Forest.{axisOf, isNone};
 ghost use Rattle.meaning.specs.Satisfying.{anyOrSame};
-ghost use Rattle.meaning.specs.Covering.{mayLie};
+ghost use Rattle.meaning.specs.Covering.{stepAt, mayLie};
+ghost use Rattle.laws.specs.Children.{childrenOf};
+ghost use Rattle.laws.specs.Laying.{leafWith};
+ghost use Rattle.shapes.specs.Shapes.{stepsIn, WellFormed};
 ghost use Rattle.covering.specs.Questions.{mayLieBelow};
 
 // The label is any, or the same.
@@ -13,22 +18,45 @@ pub fn any_or_same(l: u8, m: u8) -> bool
     l == 0 || l == m
 }
 
-// Step s may lie on step t: a near step only on a near one, a step labelled any on any, another only on the same label.
-fn may_lie(s: Step, t: Step) -> bool
-    ensures { λ r. ⌜ r ≡ mayLie (axisOf (s .axis)) (s .label) (axisOf (t .axis)) (t .label) ⌝ }
+// Step k has no child steps: the next step doesn't hang on it.
+fn childless(p: Pattern, k: usize) -> bool
+    requires { ⌜ WellFormed p × (k ≤ p .count) ⌝ }
+    ensures { λ r. ⌜ r ≡ isNone (childrenOf (stepsIn p) k) ⌝ }
 {
-    if s.axis == 0 && t.axis != 0 {
-        return false;
+    if k == p.count {
+        return true;
     }
-    any_or_same(s.label, t.label)
+    let next = p.steps[k];
+    next.parent as usize != k
 }
 
-// Step s may lie on step t, which is below step w: a near step only on a child of w.
-pub fn may_lie_below(s: Step, w: usize, t: Step) -> bool
-    ensures { λ r. ⌜ r ≡ mayLieBelow s w t ⌝ }
+// Step k is labelled any and has no child steps.
+pub fn starred_leaf(p: Pattern, k: usize) -> bool
+    requires { ⌜ WellFormed p × (1 ≤ k) × (k ≤ p .count) ⌝ }
+    ensures { λ r. ⌜ r ≡ leafWith (stepAt (stepsIn p) k .label) (childrenOf (stepsIn p) k) ⌝ }
+{
+    let s = p.steps[k - 1];
+    s.label == 0 && childless(p, k)
+}
+
+// Step s, a starred leaf or not, may lie on step t: a near step on a far one only if it is a starred leaf; a step
+// labelled any on any, another only on the same label.
+fn may_lie(s: Step, starred: bool, t: Step) -> bool
+    ensures { λ r. ⌜ r ≡ mayLie (axisOf (s .axis)) (s .label) starred (axisOf (t .axis)) (t .label) ⌝ }
+{
+    let fits = any_or_same(s.label, t.label);
+    if s.axis == 0 && t.axis != 0 {
+        return starred && fits;
+    }
+    fits
+}
+
+// Step s, a starred leaf or not, may lie on step t, which is below step w: a near step only on a child of w.
+pub fn may_lie_below(s: Step, starred: bool, w: usize, t: Step) -> bool
+    ensures { λ r. ⌜ r ≡ mayLieBelow s starred w t ⌝ }
 {
     if s.axis == 0 && t.parent as usize != w {
         return false;
     }
-    may_lie(s, t)
+    may_lie(s, starred, t)
 }

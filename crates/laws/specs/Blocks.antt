@@ -1,9 +1,9 @@
 -- In steps as they are written, the steps below a step stand right after it in one block.
 use Prim.Native.Nat.{ℕ, zero, suc, _+_, _≤_, _<_}
-use mathlib.Core.Path.{_≡_, refl, sym, _∙_, subst}
+use mathlib.Core.Path.{_≡_, refl, sym, ap, _∙_, subst}
 use mathlib.Core.List.{List, [], _∷_, _++_, append-nil}
 use native.Mathlib.Omega.{arith}
-use lib.ListN.{length, drop}
+use lib.ListN.{length, getD, drop}
 use Rattle.meaning.specs.Forest.{Forest, none, step, size, stepsFrom, stepsOf}
 use Rattle.meaning.specs.declared.Step.{Step}
 use Rattle.laws.specs.Outside.{Outside, outside-later, afterwards, outside-afterwards, steps-split}
@@ -63,3 +63,12 @@ block-of (suc j) f ss e h =
     let whole : Blocks 1 (stepsFrom 0 1 f ++ []) = blocks-written 0 1 f [] (omega arith) tt tt tt in
     subst (λ (n : ℕ). Block n (drop (suc j) ss)) (omega arith)
     (block-at 1 j ss h (subst (λ (l : List Step). Blocks 1 l) (append-nil (stepsOf f) ∙ e) whole))
+
+-- where the first step after step w doesn't hang on it, none is below it
+pub empty-block : {w : ℕ} {s : Step} {ss : List Step} (b : Block w (s ∷ ss)) → (s .parent ≡ w → ⊥) → b .below ≡ none
+unfolding stepsFrom
+empty-block {w} {s} {ss} b e = go (b .below) (b .split)
+  where
+    go : (f : Forest) → (s ∷ ss) ≡ stepsFrom w (suc w) f ++ b .after → f ≡ none
+    go none q = refl
+    go (step a m kids later) q = absurd (e (ap (λ (l : List Step). getD l 0 s .parent) q))

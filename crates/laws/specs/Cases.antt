@@ -7,12 +7,12 @@ use mathlib.Core.List.{List, [], _∷_, flatMap}
 use Rattle.base.specs.Choice.{pick}
 use Rattle.base.specs.Lists.{some, every, keep, total, without, numbersFrom}
 use Rattle.meaning.specs.Reader.{go-on, _>>=_, _>>_, give, repeat, unless, byte, bytes, number, end, numberOf}
-use Rattle.meaning.specs.Forest.{axisOf, axisNumber, isNear, Forest, none, size, childrenIn, forest, stepsFrom}
+use Rattle.meaning.specs.Forest.{axisOf, axisNumber, isNear, Forest, none, isNone, size, childrenIn, forest, stepsFrom}
 use Rattle.meaning.specs.Forest.{stepsOf, parentIn, isChild, isBelowIn, isBelow, reaches}
 use Rattle.meaning.specs.Sections.{sameLabel, label, labels, upFrom, pathAfter, mayHang, isNearRoot, nearRoot, aStep}
 use Rattle.meaning.specs.Sections.{steps, pattern, sheet, nodeParent, aNode, nodes, document, entry, table}
 use Rattle.meaning.specs.Satisfying.{anyOrSame, parentsOf, labelIn, fitsBelow, holdBelow, satisfies}
-use Rattle.meaning.specs.Covering.{mayLie, finds, fitsAt, lays, covers}
+use Rattle.meaning.specs.Covering.{starredLeaf, mayLie, finds, fitsAt, lays, covers}
 use Rattle.meaning.specs.Merging.{Merge, alone, joined, branchSize, laidOn, staysBeside, nothing, offer}
 use Rattle.meaning.specs.Merging.{commonLabel, bodyOf, meet, meetAt, across, through, mergeWithin, merge}
 use Rattle.meaning.specs.Building.{noEntry, entryAt, entrySteps, stepsTogether, entriesFrom, pair, coversOther, ascends}
@@ -104,14 +104,14 @@ caseExpected =
     -- 5: a pattern without steps covers s0; //* doesn't cover a pattern without steps
     ∷ covered true
     ∷ covered false
-    -- 6: /* doesn't cover //CD
-    ∷ covered false
+    -- 6: /* covers //CD
+    ∷ covered true
     -- 7: /*//b and //*/b: neither covers
     ∷ covered false
     ∷ covered false
     -- 8: merge of /a/b and /a/c is /a/*
     ∷ merges (record { pattern = slash a (slash star none); clipped = false })
-    -- 9: merge of s0 and s1 is [//CD[/*][//Bach]][//*/Bach], not clipped
+    -- 9: merge of s0 and s1 is [//CD//Bach][//*/Bach], not clipped
     ∷ writesMerge (writes false mergeR01)
     -- 10: R at limit 3: entries //CD/Bach with member 1, then /CD with members 0 and 2; 0 rounds
     ∷ builds (writes 0 tableR3)
@@ -125,11 +125,11 @@ caseExpected =
 -- the one claim
 pub rose-bench : caseAnswers ≡ caseExpected
 unfolding
-    caseAnswers caseExpected ofR sheetR documentD1 documentSony tableR3 tableR2 tableR0 mergeR01 slash slashes a b c star ascii flatMap pick some every keep total without numbersFrom go-on _>>=_ _>>_ give repeat unless byte bytes number end numberOf axisOf axisNumber isNear size childrenIn forest stepsFrom stepsOf parentIn isChild isBelowIn isBelow reaches sameLabel label labels upFrom pathAfter mayHang isNearRoot nearRoot aStep steps pattern sheet nodeParent aNode nodes document entry table anyOrSame parentsOf labelIn fitsBelow holdBelow satisfies mayLie finds fitsAt lays covers alone joined branchSize laidOn staysBeside nothing offer commonLabel bodyOf meet meetAt across through mergeWithin merge noEntry entryAt entrySteps stepsTogether entriesFrom pair coversOther ascends pairsOf pairsBelow joinAt covering settleAt settleTimes settle saves better bestOf bestPair cut largest cutLargest mergeOrCut round roundsFrom build isMember hasMember entriesOf oneThatCovers eachInOne isPeopled isWithin fair deliverySet plainRoute membersOf matchesFor deliveredFrom tableRoute triedFor tried stepBytes patternBytes numberBytes entryBytes tableBytes judged fairTable threeJudged isSubscription subscription matchesAnswer coversAnswer mergeWriting buildWriting plainAnswer tableAnswer
+    caseAnswers caseExpected ofR sheetR documentD1 documentSony tableR3 tableR2 tableR0 mergeR01 slash slashes a b c star ascii flatMap pick some every keep total without numbersFrom go-on _>>=_ _>>_ give repeat unless byte bytes number end numberOf axisOf axisNumber isNear size childrenIn forest stepsFrom stepsOf parentIn isChild isBelowIn isBelow reaches sameLabel label labels upFrom pathAfter mayHang isNearRoot nearRoot aStep steps pattern sheet nodeParent aNode nodes document entry table anyOrSame parentsOf labelIn fitsBelow holdBelow satisfies isNone starredLeaf mayLie finds fitsAt lays covers alone joined branchSize laidOn staysBeside nothing offer commonLabel bodyOf meet meetAt across through mergeWithin merge noEntry entryAt entrySteps stepsTogether entriesFrom pair coversOther ascends pairsOf pairsBelow joinAt covering settleAt settleTimes settle saves better bestOf bestPair cut largest cutLargest mergeOrCut round roundsFrom build isMember hasMember entriesOf oneThatCovers eachInOne isPeopled isWithin fair deliverySet plainRoute membersOf matchesFor deliveredFrom tableRoute triedFor tried stepBytes patternBytes numberBytes entryBytes tableBytes judged fairTable threeJudged isSubscription subscription matchesAnswer coversAnswer mergeWriting buildWriting plainAnswer tableAnswer
 rose-bench = refl
 
 -- what the program prints for R at limit 2, exactly
 pub printed-R : printed (2 ∷ 0 ∷ sheetR) ≡ ascii "3 subscriptions, 1 entries, 1 steps, 1 rounds\n0,1,2: //CD\n"
 unfolding
-    sheetR ascii flatMap pick some every keep total without numbersFrom go-on _>>=_ _>>_ give repeat unless byte bytes number end numberOf axisOf axisNumber isNear size childrenIn forest stepsFrom stepsOf sameLabel label labels upFrom pathAfter mayHang isNearRoot nearRoot aStep steps pattern sheet anyOrSame mayLie finds fitsAt lays covers alone joined branchSize laidOn staysBeside nothing offer commonLabel bodyOf meet meetAt across through mergeWithin merge noEntry entryAt entrySteps stepsTogether entriesFrom pair coversOther ascends pairsOf pairsBelow joinAt covering settleAt settleTimes settle saves better bestOf bestPair cut largest cutLargest mergeOrCut round roundsFrom build isMember membersOf labelAt judged decimalIn decimal axisText labelText several inBrackets branchesText patternText commaText totalsText entryText tableText asking printed
+    sheetR ascii flatMap pick some every keep total without numbersFrom go-on _>>=_ _>>_ give repeat unless byte bytes number end numberOf axisOf axisNumber isNear size childrenIn forest stepsFrom stepsOf sameLabel label labels upFrom pathAfter mayHang isNearRoot nearRoot aStep steps pattern sheet anyOrSame isNone starredLeaf mayLie finds fitsAt lays covers alone joined branchSize laidOn staysBeside nothing offer commonLabel bodyOf meet meetAt across through mergeWithin merge noEntry entryAt entrySteps stepsTogether entriesFrom pair coversOther ascends pairsOf pairsBelow joinAt covering settleAt settleTimes settle saves better bestOf bestPair cut largest cutLargest mergeOrCut round roundsFrom build isMember membersOf labelAt judged decimalIn decimal axisText labelText several inBrackets branchesText patternText commaText totalsText entryText tableText asking printed
 printed-R = refl

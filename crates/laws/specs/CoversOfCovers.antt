@@ -2,15 +2,16 @@
 use Prim.Native.Nat.{ℕ}
 use mathlib.Core.Path.{_≡_, refl, sym, subst}
 use mathlib.Core.Logic.{⊎-elim}
-use mathlib.Core.Bool.{true, _||_, false≢true}
+use mathlib.Core.Bool.{Bool, true, _||_}
 use lib.Dec.{eqb}
 use borrow.Author.Tests.{eqb-true}
-use Rattle.base.specs.Bools.{and-second, and-first, and-both, or-cases, or-first}
-use Rattle.meaning.specs.Forest.{Axis, near, far, isNear, Forest, none, step}
+use Rattle.base.specs.Bools.{and-first, and-second, and-both, or-cases, or-first}
+use Rattle.meaning.specs.Forest.{Axis, near, far, isNear, Forest, none, step, isNone}
 use Rattle.meaning.specs.Satisfying.{anyOrSame}
-use Rattle.meaning.specs.Covering.{mayLie, fitsAt, lays, covers}
-use Rattle.laws.specs.StepPlaces.{Place, here, after, below, Found, place-far, place-below}
-use Rattle.laws.specs.Laying.{first-lies, others-lie, lays-step, fits-here, fits-below}
+use Rattle.meaning.specs.Covering.{starredLeaf, mayLie, lays, covers}
+use Rattle.laws.specs.StepPlaces.{Place, here, after, below, Found, place-far, place-below, some-root}
+use Rattle.laws.specs.Laying.{leafWith, fitsWith, first-lies, others-lie, lays-found, fits-of, fits-here, fits-below}
+use Rattle.laws.specs.StarredLeaves.{leaf-lies, leaf-on-far, none-laid, leaf-on-leaf}
 
 -- a label that fits one that fits a third fits the third
 any-trans : (l m n : ℕ) → anyOrSame l m ≡ true → anyOrSame m n ≡ true → anyOrSame l n ≡ true
@@ -18,17 +19,29 @@ unfolding anyOrSame
 any-trans l m n h k =
     ⊎-elim (or-first (eqb l 0) (eqb l n)) (λ e. subst (λ (i : ℕ). (eqb i 0 || eqb i n) ≡ true) (sym (eqb-true l m e)) k) (or-cases (eqb l 0) (eqb l m) h)
 
--- what may lie on a step that may lie on a third may lie on the third
-mayLie-trans : (x y z : Axis) (l m n : ℕ) → mayLie x l y m ≡ true → mayLie y m z n ≡ true → mayLie x l z n ≡ true
+-- where a step may lie its label fits
+lies-label : (x y : Axis) (l m : ℕ) (starred : Bool) → mayLie x l starred y m ≡ true → anyOrSame l m ≡ true
+unfolding mayLie
+lies-label near y l m starred h = and-second (isNear y || starred) (anyOrSame l m) h
+lies-label far y l m starred h = h
+
+-- what may lie on a step that may lie on a third may lie on the third, if it is a starred leaf where that step is one
+mayLie-trans :
+    (x y z : Axis) (l m n : ℕ) (starred there : Bool) → (there ≡ true → starred ≡ true)
+    → mayLie x l starred y m ≡ true → mayLie y m there z n ≡ true → mayLie x l starred z n ≡ true
 unfolding mayLie isNear
-mayLie-trans near near z l m n h k = and-both (isNear z) (anyOrSame l n) (and-first (isNear z) (anyOrSame m n) k)
-    (any-trans l m n h (and-second (isNear z) (anyOrSame m n) k))
-mayLie-trans near far z l m n h k = absurd (false≢true h)
-mayLie-trans far near z l m n h k = any-trans l m n h (and-second (isNear z) (anyOrSame m n) k)
-mayLie-trans far far z l m n h k = any-trans l m n h k
+mayLie-trans near near near l m n starred there passes-on h k = any-trans l m n h k
+mayLie-trans near near far l m n starred there passes-on h k =
+    and-both starred (anyOrSame l n) (passes-on (and-first there (anyOrSame m n) k)) (any-trans l m n h (and-second there (anyOrSame m n) k))
+mayLie-trans near far near l m n starred there passes-on h k = any-trans l m n (and-second starred (anyOrSame l m) h) k
+mayLie-trans near far far l m n starred there passes-on h k =
+    and-both starred (anyOrSame l n) (and-first starred (anyOrSame l m) h) (any-trans l m n (and-second starred (anyOrSame l m) h) k)
+mayLie-trans far y z l m n starred there passes-on h k = any-trans l m n h (lies-label y z m n there k)
+
+-- ---- places
 
 -- where a forest is laid, the step at each of its places has a place
-follow-far : {y : Axis} {m : ℕ} {k b : Forest} (c : Forest) → Place far b y m k → lays b c ≡ true → Found far (fitsAt y m (lays k)) c
+follow-far : {y : Axis} {m : ℕ} {k b : Forest} (c : Forest) → Place far b y m k → lays b c ≡ true → Found far (fitsWith y m k) c
 follow-far {y} {m} {k} c (here {later}) h =
     let r = first-lies y m k later c h in
     record { axis = r .axis; label = r .label; kids = r .kids; place = place-far (r .place); passed = r .passed }
@@ -39,18 +52,37 @@ follow-far c (below {z} {n} {kids} {later} p) h =
     record { axis = s .axis; label = s .label; kids = s .kids; place = place-below (r .place) (s .place); passed = s .passed }
 
 -- that of a near root step is among the roots
-follow-near : {m : ℕ} {k b : Forest} (c : Forest) → Place near b near m k → lays b c ≡ true → Found near (fitsAt near m (lays k)) c
+follow-near : {m : ℕ} {k b : Forest} (c : Forest) → Place near b near m k → lays b c ≡ true → Found near (fitsWith near m k) c
 follow-near {m} {k} c (here {later}) h = first-lies near m k later c h
 follow-near c (after {z} {n} {kids} {later} p) h = follow-near c p (others-lie z n kids later c h)
 
--- a step that may lie on the step at a place finds the place of that step
-follow :
-    (x y : Axis) (l m : ℕ) (k b c : Forest) →
-    Place x b y m k → mayLie x l y m ≡ true → lays b c ≡ true → Found x (fitsAt y m (lays k)) c
-unfolding mayLie isNear
-follow near near l m k b c p f h = follow-near c p h
-follow near far l m k b c p f h = absurd (false≢true f)
-follow far y l m k b c p f h = follow-far c p h
+-- a starred leaf finds a place wherever there is a root step
+moved-up : (l : ℕ) (kids c : Forest) → leafWith l kids ≡ true → Found near (λ y m k. true) c → Found near (fitsWith near l kids) c
+unfolding starredLeaf
+moved-up l kids c s r =
+    let may = leaf-lies (r .axis) l (r .label) (isNone kids) s in
+    let laid = none-laid kids (r .kids) (and-second (eqb l 0) (isNone kids) s) in
+    record { axis = r .axis; label = r .label; kids = r .kids; place = r .place; passed = fits-of near (r .axis) l (r .label) kids (r .kids) may laid }
+
+-- a step of the first forest that fits at a place of the second finds one in the third, where the second is laid, if its child
+-- steps are laid wherever those of that place are
+module _ (l m : ℕ) (kids k b c : Forest) (onto : lays b c ≡ true) (deeper : (d : Forest) → lays k d ≡ true → lays kids d ≡ true) where
+  -- where the step at that place lies
+  moved-along : (x y : Axis) → fitsWith x l kids y m k ≡ true → Found x (fitsWith y m k) c → Found x (fitsWith x l kids) c
+  moved-along x y h r =
+      let here-may = fits-here x y l m kids k h in
+      let there-may = fits-here y (r .axis) m (r .label) k (r .kids) (r .passed) in
+      let passes-on = leaf-on-leaf l m kids k (lies-label x y l m (leafWith l kids) here-may) (fits-below x y l m kids k h) in
+      let may = mayLie-trans x y (r .axis) l m (r .label) (leafWith l kids) (leafWith m k) passes-on here-may there-may in
+      let laid = deeper (r .kids) (fits-below y (r .axis) m (r .label) k (r .kids) (r .passed)) in
+      record { axis = r .axis; label = r .label; kids = r .kids; place = r .place; passed = fits-of x (r .axis) l (r .label) kids (r .kids) may laid }
+
+  -- a starred leaf on a far step, which may lie deep, moves up: where something is strictly below there is a child
+  moved : (x y : Axis) → Place x b y m k → fitsWith x l kids y m k ≡ true → Found x (fitsWith x l kids) c
+  moved near near p h = moved-along near near h (follow-near c p onto)
+  moved near far p h =
+      moved-up l kids c (leaf-on-far l m (leafWith l kids) (fits-here near far l m kids k h)) (some-root (follow-far c (place-far p) onto .place))
+  moved far y p h = moved-along far y h (follow-far c p onto)
 
 -- a forest laid onto one that is laid onto a third can be laid onto the third
 pub lays-trans : (a b c : Forest) → lays a b ≡ true → lays b c ≡ true → lays a c ≡ true
@@ -58,12 +90,9 @@ unfolding lays
 lays-trans none b c h e = refl
 lays-trans (step x l kids later) b c h e =
     let r = first-lies x l kids later b h in
-    let f = fits-here x (r .axis) l (r .label) kids (r .kids) (r .passed) in
-    let s = follow x (r .axis) l (r .label) (r .kids) b c (r .place) f e in
-    lays-step x (s .axis) l (s .label) kids later (s .kids) c (s .place)
-    (mayLie-trans x (r .axis) (s .axis) l (r .label) (s .label) f (fits-here (r .axis) (s .axis) (r .label) (s .label) (r .kids) (s .kids) (s .passed)))
-    (lays-trans kids (r .kids) (s .kids) (fits-below x (r .axis) l (r .label) kids (r .kids) (r .passed))
-    (fits-below (r .axis) (s .axis) (r .label) (s .label) (r .kids) (s .kids) (s .passed)))
+    let laid = fits-below x (r .axis) l (r .label) kids (r .kids) (r .passed) in
+    lays-found x l kids later c
+    (moved l (r .label) kids (r .kids) b c e (λ d. lays-trans kids (r .kids) d laid) x (r .axis) (r .place) (r .passed))
     (lays-trans later b c (others-lie x l kids later b h) e)
 
 -- covers of covers are covers

@@ -12,7 +12,7 @@ use Rattle.meaning.specs.Covering.{lays, covers}
 use Rattle.meaning.specs.Building.{cut}
 use Rattle.laws.specs.Bridge.{length-stepsFrom}
 use Rattle.laws.specs.StepPlaces.{here, after}
-use Rattle.laws.specs.Laying.{mayLie-refl, lays-step, lays-refl, lays-weaken}
+use Rattle.laws.specs.Laying.{leafWith, mayLie-refl, lays-step, lays-refl, lays-weaken}
 
 -- a pattern without its last step covers it
 pub cut-covers : (f : Forest) → covers (cut f) f ≡ true
@@ -21,10 +21,10 @@ cut-covers none = refl
 cut-covers (step x l none none) = refl
 cut-covers (step x l (step y m kids more) none) =
     let k = step y m kids more in
-    lays-step x x l l (cut k) none k (step x l k none) here (mayLie-refl x l) (cut-covers (step y m kids more)) refl
+    lays-step x x l l (cut k) none k (step x l k none) here (mayLie-refl x l (leafWith l (cut k))) (cut-covers (step y m kids more)) refl
 cut-covers (step x l kids (step y m ks later)) =
     let r = step y m ks later in
-    lays-step x x l l kids (cut r) kids (step x l kids r) here (mayLie-refl x l) (lays-refl kids)
+    lays-step x x l l kids (cut r) kids (step x l kids r) here (mayLie-refl x l (leafWith l kids)) (lays-refl kids)
     (lays-weaken (cut r) r (step x l kids r) (λ z w n k p. after p) (cut-covers (step y m ks later)))
 
 -- it has one step less

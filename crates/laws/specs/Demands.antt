@@ -5,7 +5,7 @@
 use Prim.Native.Nat.{ℕ, suc, _+_, _≤_, _<_}
 use mathlib.Core.Path.{_≡_, refl, sym, ap, _∙_}
 use mathlib.Core.Logic.{_⊎_, inl, inr, _↔_}
-use mathlib.Core.Bool.{Bool, true, false}
+use mathlib.Core.Bool.{Bool, true, false, not}
 use mathlib.Core.List.{List, [], map, List·Memᴰ}
 use borrow.Author.Tests.{ltb-true, lt-ltb, le-leb, lt-leb}
 use lib.ListN.{length, take}
@@ -14,10 +14,10 @@ use Rattle.base.specs.Choice.{pick}
 use Rattle.base.specs.Lists.{every}
 use Rattle.meaning.specs.Numbers.{countOutside, secondNear, noRoom, notThere, notALine, labelUnknown, notWritable, mostSteps, longestLine}
 use Rattle.meaning.specs.Reader.{read, refused, Went, Reader}
-use Rattle.meaning.specs.Forest.{Forest, size, stepsOf}
+use Rattle.meaning.specs.Forest.{near, axisOf, Forest, none, step, isNone, size, stepsOf, isChild}
 use Rattle.meaning.specs.Sections.{Sheet, sheet, Document, document, Node, Entry}
 use Rattle.meaning.specs.Satisfying.{satisfies, parentsOf}
-use Rattle.meaning.specs.Covering.{Laying, covers}
+use Rattle.meaning.specs.Covering.{stepAt, stepParents, isStarredLeaf, LiesWell, Laying, covers}
 use Rattle.meaning.specs.Merging.{merge}
 use Rattle.meaning.specs.Building.{stepsTogether, entriesFrom, settle, build}
 use Rattle.meaning.specs.Fair.{isMember, entriesOf, fair}
@@ -43,6 +43,7 @@ use Rattle.meaning.specs.declared.Asked.the-variants as asked
 use Rattle.meaning.specs.declared.Lined.the-variants as lined
 use Rattle.meaning.specs.declared.Output.the-variants as output
 use Rattle.meaning.specs.declared.Routed.the-variants as routed
+use Rattle.meaning.specs.declared.Step.{Step}
 use Rattle.meaning.specs.declared.Tabled.the-variants as tabled
 use Rattle.laws.specs.Refusals.{NotZero, Numbered, sheet-numbered, document-numbered, fair-table-numbered, asking-numbered}
 use Rattle.laws.specs.Refusals.{only-pattern-numbered}
@@ -50,6 +51,10 @@ use Rattle.laws.specs.AnswerNumbers as answers
 use Rattle.laws.specs.Bridge.{forest-stepsOf}
 use Rattle.laws.specs.WrittenRising.{written-rises}
 use Rattle.laws.specs.Layings.{lays-of-laying, laying-of-lays}
+use Rattle.laws.specs.CoversOfCovers.{covers-trans}
+use Rattle.laws.specs.Documents as documents
+use Rattle.laws.specs.CoveringAnswers as answered
+use Rattle.laws.specs.StarredLeaves.{starred-leaf-lies, others-on-near, starred-leaf-covers, near-on-near}
 use Rattle.laws.specs.Labels.{document-distinct}
 use Rattle.laws.specs.LabelsStand.{StandsIn, sheet-label-stands, document-label-stands}
 use Rattle.laws.specs.BytesDecide.{same-number, read-by-bytes}
@@ -539,3 +544,50 @@ pub subscription-back : (s left : List ℕ) (sh : Sheet) → sheet s ≡ read sh
     → ReadsBack s (take (g .values) out) (patternBytes (subscription sh i))
 subscription-back s left sh was-read i found g out r h =
     subscription-reads-back s left sh was-read i _ (answers.write-subscription-0 s i found g out r h)
+
+-- ======== #103 A starred leaf is too fussy. "A near step labelled any, without children, may now be laid on any child of its parent's
+-- place, near or far. .. Demands 2 and 3 read the new covering; merging, settling and the fair check follow it. The proof that
+-- covering never loses a document, and that covers of covers are covers, is made again."
+--
+-- Demand 2 reads it in `covers-is-laying`, `covering`, `merging` and `building`, demand 3 in `passing`, `routing` and `built-passes`; the
+-- three cases that the request names stand in `rose-bench`.
+
+-- such a step lies well on every child of its parent's place
+pub starred-leaf : (a b : List Step) (k t u : ℕ) → axisOf (stepAt a k .axis) ≡ near → isStarredLeaf a k ≡ true
+    → (1 ≤ u) × (u ≤ length b) → isChild (stepParents b) t u ≡ true → LiesWell b (stepAt a k) (isStarredLeaf a k) t u
+starred-leaf = starred-leaf-lies
+
+-- any other near step only on near ones
+pub no-starred-leaf : (a b : List Step) (k t u : ℕ) → axisOf (stepAt a k .axis) ≡ near → isStarredLeaf a k ≡ false
+    → LiesWell b (stepAt a k) (isStarredLeaf a k) t u → axisOf (stepAt b u .axis) ≡ near
+no-starred-leaf a b k t u at-near other w = others-on-near b (stepAt a k) t u at-near (rw other at w)
+
+-- alone it covers exactly the patterns that have a step
+pub starred-leaf-alone : (f : Forest) → covers (step near 0 none none) f ≡ not (isNone f)
+starred-leaf-alone = starred-leaf-covers
+
+-- what can be laid without that, near steps on near ones alone, can be laid: a pattern that covers by the rule of document 01 covers.
+-- A table is fair by the coverings that it has, so one that is fair by that rule is fair
+pub near-alone-covers : (a b : Forest) (place : ℕ → ℕ) → place 0 ≡ 0
+    → ((k : ℕ) → 1 ≤ k → k ≤ length (stepsOf a)
+    → LiesWell (stepsOf b) (stepAt (stepsOf a) k) false (place (stepAt (stepsOf a) k .parent)) (place k))
+    → covers a b ≡ true
+near-alone-covers a b place root lies = covers-is-laying a b .1 (near-on-near (stepsOf a) (stepsOf b) place root lies)
+
+-- a document that satisfies a pattern satisfies each that covers it
+pub covering-loses-none : (ns : List Node) (a b : Forest) → Rising (parentsOf ns) → covers a b ≡ true → satisfies ns b ≡ true → satisfies ns a ≡ true
+covering-loses-none = documents.covering-loses-none
+
+-- covers of covers are covers
+pub covers-of-covers : (a b c : Forest) → covers a b ≡ true → covers b c ≡ true → covers a c ≡ true
+covers-of-covers = covers-trans
+
+-- so it is with the answers, for any bytes at all: where subscription i covers j, every document that satisfies j satisfies i
+pub answers-lose-none : (s d : List ℕ) (i j : ℕ) → coversAnswer s i j ≡ asked.Said true → matchesAnswer s d j ≡ asked.Said true
+    → matchesAnswer s d i ≡ asked.Said true
+answers-lose-none = answered.answers-lose-none
+
+-- and where i covers j and j covers k, i covers k
+pub answers-of-covers : (s : List ℕ) (i j k : ℕ) → coversAnswer s i j ≡ asked.Said true → coversAnswer s j k ≡ asked.Said true
+    → coversAnswer s i k ≡ asked.Said true
+answers-of-covers = answered.answers-of-covers

@@ -17,6 +17,7 @@ use Rattle.meaning.specs.declared.Step.{Step}
 use Rattle.laws.specs.Rising.{Rising}
 use Rattle.laws.specs.Children.{childrenOf, children-of-root}
 use Rattle.laws.specs.NumberedPlaces.{passesAt, finds-spot, spot-found}
+use Rattle.laws.specs.Laying.{leafWith, fitsWith}
 use Rattle.laws.specs.CoversOfCovers.{lays-trans}
 
 -- a node as a near step
@@ -50,10 +51,10 @@ label-near (d ∷ ns) (suc zero) = refl
 label-near (d ∷ ns) (suc (suc k)) = label-near ns (suc k)
 
 -- on a near step only the label is asked
-lies-near : (x : Axis) (l m : ℕ) → mayLie x l near m ≡ anyOrSame l m
+lies-near : (x : Axis) (l m : ℕ) (starred : Bool) → mayLie x l starred near m ≡ anyOrSame l m
 unfolding mayLie isNear
-lies-near near l m = refl
-lies-near far l m = refl
+lies-near near l m starred = refl
+lies-near far l m starred = refl
 
 module _ (ns : List Node) (rises : Rising (parentsOf ns)) where
   -- the steps rise as the nodes do
@@ -66,10 +67,10 @@ module _ (ns : List Node) (rises : Rising (parentsOf ns)) where
 
   -- a node fits a step exactly if the step passes there
   fits-passes : (x : Axis) (l : ℕ) (kids : Forest) (t u : ℕ) → holdBelow ns kids u ≡ lays kids (childrenOf (map nearStep ns) u)
-      → fitsBelow ns t x l (holdBelow ns kids) u ≡ (reaches x (stepParents (map nearStep ns)) t u && passesAt (map nearStep ns) (fitsAt x l (lays kids)) u)
+      → fitsBelow ns t x l (holdBelow ns kids) u ≡ (reaches x (stepParents (map nearStep ns)) t u && passesAt (map nearStep ns) (fitsWith x l kids) u)
   unfolding fitsBelow passesAt fitsAt axisOf
   fits-passes x l kids t u same =
-      rw (parents-near ns, axis-near ns u, label-near ns u, lies-near x l (labelIn ns u), same)
+      rw (parents-near ns, axis-near ns u, label-near ns u, lies-near x l (labelIn ns u) (leafWith l kids), same)
 
   -- some node that may be looked at fits a step exactly if the step finds a place
   module _ (x : Axis) (l : ℕ) (kids : Forest)
@@ -80,22 +81,22 @@ module _ (ns : List Node) (rises : Rising (parentsOf ns)) where
     fits u = fitsBelow ns t x l (holdBelow ns kids) u
 
     -- a node that fits is a place
-    fits-finds : some fits (numbersFrom 1 (length ns)) ≡ true → finds x (fitsAt x l (lays kids)) (childrenOf (map nearStep ns) t) ≡ true
+    fits-finds : some fits (numbersFrom 1 (length ns)) ≡ true → finds x (fitsWith x l kids) (childrenOf (map nearStep ns) t) ≡ true
     unfolding fits
     fits-finds h =
         let r = some-gives fits (numbersFrom 1 (length ns)) h in
         let b = numbersFrom-gives 1 (length ns) (r .1) in
         let inside = reaches x (stepParents (map nearStep ns)) t (r .0) in
-        let passed = passesAt (map nearStep ns) (fitsAt x l (lays kids)) (r .0) in
+        let passed = passesAt (map nearStep ns) (fitsWith x l kids) (r .0) in
         let both = sym (fits-passes x l kids t (r .0) (same (r .0) (omega arith))) ∙ r .2 in
-        spot-found (map nearStep ns) rising (fitsAt x l (lays kids)) x t
+        spot-found (map nearStep ns) rising (fitsWith x l kids) x t
         (record { number = r .0; there = (b .0, omega (arith, long)); within = and-first inside passed both; passed = and-second inside passed both })
 
     -- a place is a node that fits
-    finds-fits : finds x (fitsAt x l (lays kids)) (childrenOf (map nearStep ns) t) ≡ true → some fits (numbersFrom 1 (length ns)) ≡ true
+    finds-fits : finds x (fitsWith x l kids) (childrenOf (map nearStep ns) t) ≡ true → some fits (numbersFrom 1 (length ns)) ≡ true
     unfolding fits
     finds-fits h =
-        let r = finds-spot (map nearStep ns) rising (fitsAt x l (lays kids)) x t (omega (arith, long)) h in
+        let r = finds-spot (map nearStep ns) rising (fitsWith x l kids) x t (omega (arith, long)) h in
         some-of fits (numbersFrom-of 1 (length ns) (r .number) (r .there .0) (omega (arith, long)))
         (fits-passes x l kids t (r .number) (same (r .number) (omega (arith, long))) ∙ and-both _ _ (r .within) (r .passed))
 

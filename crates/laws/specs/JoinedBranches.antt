@@ -6,8 +6,9 @@ use native.Mathlib.Omega.{arith}
 use Rattle.base.specs.Bools.{and-first, and-both}
 use Rattle.base.specs.Lists.{total}
 use Rattle.meaning.specs.Forest.{Forest, size}
-use Rattle.meaning.specs.Covering.{finds, fitsAt, lays}
+use Rattle.meaning.specs.Covering.{finds, lays}
 use Rattle.meaning.specs.Merging.{Branch, alone, joined, branchSize}
+use Rattle.laws.specs.Laying.{fitsWith}
 use Rattle.laws.specs.Offering.{AllKept}
 
 -- joined branches can be laid where each can
@@ -15,7 +16,7 @@ pub joined-lays : (cs : List Branch) (b : Forest) → AllKept (λ c. lays (alone
 unfolding joined alone lays AllKept
 joined-lays [] b h = refl
 joined-lays (c ∷ cs) b h =
-    and-both _ (lays (joined cs) b) (and-first (finds (c .axis) (fitsAt (c .axis) (c .label) (lays (c .kids))) b) true (h c (List·Memᴰ·head refl)))
+    and-both _ (lays (joined cs) b) (and-first (finds (c .axis) (fitsWith (c .axis) (c .label) (c .kids)) b) true (h c (List·Memᴰ·head refl)))
     (joined-lays cs b (λ k m. h k (List·Memᴰ·tail m)))
 
 -- they have as many steps as all of them

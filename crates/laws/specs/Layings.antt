@@ -9,21 +9,24 @@ use native.Mathlib.Nat.{eq-or-lt-of-le}
 use borrow.Author.Tests.{le-leb, lt-leb}
 use lib.Dec.{leb}
 use lib.ListN.{length}
-use Rattle.base.specs.Bools.{and-first, and-second, and-both, not-true, not-both, true-or-false}
+use Rattle.base.specs.Bools.{and-first, and-second, and-both, both-ways, not-true, not-both, true-or-false}
 use Rattle.base.specs.Choice.{pick}
-use Rattle.meaning.specs.Forest.{Axis, near, axisOf, Forest, none, step, forest, isChild, reaches}
-use Rattle.meaning.specs.Covering.{stepAt, stepParents, LiesWell, Laying, mayLie, finds, fitsAt, lays}
+use Rattle.base.specs.Lists.{some, numbersFrom}
+use Rattle.base.specs.ListLaws.{some-gives, some-of, numbersFrom-gives, numbersFrom-of}
+use Rattle.meaning.specs.Forest.{Axis, near, axisOf, Forest, none, step, isNone, forest, isChild, reaches}
+use Rattle.meaning.specs.Covering.{stepAt, stepParents, isChildless, isStarredLeaf, starredLeaf, LiesWell, Laying, mayLie, finds, fitsAt, lays}
 use Rattle.meaning.specs.declared.Step.{Step}
 use Rattle.laws.specs.Rising.{Rising}
 use Rattle.laws.specs.Below.{child-of-parent}
 use Rattle.laws.specs.Children.{childrenOf, children-of-root, parent-is, is-child, parent-before}
 use Rattle.laws.specs.NumberedPlaces.{passesAt, Spot, finds-spot, spot-found}
+use Rattle.laws.specs.Laying.{leafWith, fitsWith}
 
 -- ---- the child steps of a step are laid exactly if each of them finds a place
 
 -- the step finds no place in c
 unfoldable misses : Forest → Axis → ℕ → Forest → Bool
-misses c x l kids = not (finds x (fitsAt x l (lays kids)) c)
+misses c x l kids = not (finds x (fitsWith x l kids) c)
 
 -- p holds and q fails exactly if neither q holds nor p fails
 not-either : (p q : Bool) → (p && not q) ≡ not (not p || q)
@@ -35,12 +38,12 @@ none-misses : (f c : Forest) → lays f c ≡ not (finds near (misses c) f)
 unfolding lays finds misses
 none-misses none c = refl
 none-misses (step x l kids later) c =
-    ap (λ (z : Bool). finds x (fitsAt x l (lays kids)) c && z) (none-misses later c)
-    ∙ not-either (finds x (fitsAt x l (lays kids)) c) (finds near (misses c) later)
+    ap (λ (z : Bool). finds x (fitsWith x l kids) c && z) (none-misses later c)
+    ∙ not-either (finds x (fitsWith x l kids) c) (finds near (misses c) later)
 
 -- step k finds a place in c
 abbrev FindsPlace : List Step → Forest → ℕ → Type 0
-FindsPlace a c k = finds (axisOf (stepAt a k .axis)) (fitsAt (axisOf (stepAt a k .axis)) (stepAt a k .label) (lays (childrenOf a k))) c ≡ true
+FindsPlace a c k = finds (axisOf (stepAt a k .axis)) (fitsWith (axisOf (stepAt a k .axis)) (stepAt a k .label) (childrenOf a k)) c ≡ true
 
 module _ (a : List Step) (rises : Rising (stepParents a)) where
   -- if the child steps of a step are laid in c, each of them finds a place there
@@ -74,6 +77,40 @@ module _ (a : List Step) (rises : Rising (stepParents a)) where
           let b : t < s .number = omega (arith, parent-before a rises (s .number) (s .there .0) (s .there .1)) in
           true≢false (sym (s .passed) ∙ ap not (h (s .number) (s .there .0) (s .there .1) b e))
 
+-- ---- a step that no step is a child of has no child steps
+
+-- a forest has no step exactly if no root step is found
+none-found : (f : Forest) → isNone f ≡ not (finds near (λ y m k. true) f)
+unfolding isNone finds
+none-found none = refl
+none-found (step x l kids later) = refl
+
+module _ (a : List Step) (rises : Rising (stepParents a)) (k : ℕ) (within : k ≤ length a) where
+  -- a child is found among the child steps
+  child-found : some (isChild (stepParents a) k) (numbersFrom 1 (length a)) ≡ true → finds near (λ y m f. true) (childrenOf a k) ≡ true
+  unfolding passesAt reaches
+  child-found h =
+      let r = some-gives (isChild (stepParents a) k) (numbersFrom 1 (length a)) h in
+      let b = numbersFrom-gives 1 (length a) (r .1) in
+      spot-found a rises (λ y m f. true) near k (record { number = r .0; there = (b .0, omega arith); within = r .2; passed = refl })
+
+  -- what is found among them is a child
+  found-child : finds near (λ y m f. true) (childrenOf a k) ≡ true → some (isChild (stepParents a) k) (numbersFrom 1 (length a)) ≡ true
+  unfolding reaches
+  found-child h =
+      let r = finds-spot a rises (λ y m f. true) near k within h in
+      some-of (isChild (stepParents a) k) (numbersFrom-of 1 (length a) (r .number) (r .there .0) (omega (arith, r .there))) (r .within)
+
+  -- so a step that no step is a child of has none
+  childless-has-none : isChildless a k ≡ isNone (childrenOf a k)
+  unfolding isChildless
+  childless-has-none = ap not (both-ways _ _ child-found found-child) ∙ sym (none-found (childrenOf a k))
+
+  -- so the map of steps and the check speak of the same starred leaves
+  same-leaves : isStarredLeaf a k ≡ leafWith (stepAt a k .label) (childrenOf a k)
+  unfolding isStarredLeaf
+  same-leaves = ap (starredLeaf (stepAt a k .label)) childless-has-none
+
 -- ---- where there is a laying the check says yes
 
 module _ (a b : List Step) (rises-a : Rising (stepParents a)) (rises-b : Rising (stepParents b)) (m : Laying a b) where
@@ -86,9 +123,9 @@ module _ (a b : List Step) (rises-a : Rising (stepParents a)) (rises-b : Rising 
       at : (k : ℕ) → 1 ≤ k → k ≤ length a → stepAt a k .parent ≡ t → lays (childrenOf a k) (childrenOf b (m .place k)) ≡ true
           → FindsPlace a (childrenOf b (m .place t)) k
       at k o h p inner =
-          let w : LiesWell b (stepAt a k) (m .place t) (m .place k) =
-          subst (λ (q : ℕ). LiesWell b (stepAt a k) (m .place q) (m .place k)) p (m .lies k o h) in
-          spot-found b rises-b (fitsAt (axisOf (stepAt a k .axis)) (stepAt a k .label) (lays (childrenOf a k))) (axisOf (stepAt a k .axis)) (m .place t)
+          let w : LiesWell b (stepAt a k) (leafWith (stepAt a k .label) (childrenOf a k)) (m .place t) (m .place k) =
+          rw (← same-leaves a rises-a k h, ← p) (m .lies k o h) in
+          spot-found b rises-b (fitsWith (axisOf (stepAt a k .axis)) (stepAt a k .label) (childrenOf a k)) (axisOf (stepAt a k .axis)) (m .place t)
           (record { number = m .place k; there = w .there; within = w .within; passed = and-both _ _ (w .fits) inner })
 
 -- if the steps have places, the forests are laid
@@ -117,7 +154,7 @@ up-to n P f h k l = ⊎-elim (λ e. subst P (sym e) h) (λ q. f k (omega arith))
 
 -- u is a place for step k, whose parent's place is t
 record Well (a b : List Step) (k t u : ℕ) : Type 0 where
-  lies : LiesWell b (stepAt a k) t u
+  lies : LiesWell b (stepAt a k) (isStarredLeaf a k) t u
   laid : lays (childrenOf a k) (childrenOf b u) ≡ true
 
 -- places for the first n steps
@@ -125,7 +162,7 @@ record Begun (a b : List Step) (n : ℕ) : Type 0 where
   place : ℕ → ℕ
   root : place 0 ≡ 0
   low : (k : ℕ) → k ≤ n → place k ≤ length b
-  lies : (k : ℕ) → k ≤ n → 1 ≤ k → LiesWell b (stepAt a k) (place (stepAt a k .parent)) (place k)
+  lies : (k : ℕ) → k ≤ n → 1 ≤ k → LiesWell b (stepAt a k) (isStarredLeaf a k) (place (stepAt a k .parent)) (place k)
   laid : (k : ℕ) → k ≤ n → lays (childrenOf a k) (childrenOf b (place k)) ≡ true
 
 module _ (a b : List Step) (rises-a : Rising (stepParents a)) (rises-b : Rising (stepParents b)) where
@@ -141,16 +178,22 @@ module _ (a b : List Step) (rises-a : Rising (stepParents a)) (rises-b : Rising 
   next : (k : ℕ) → 1 ≤ k → k ≤ length a → (t : ℕ) → t ≤ length b → lays (childrenOf a (stepAt a k .parent)) (childrenOf b t) ≡ true → (u : ℕ) × Well a b k t u
   unfolding passesAt fitsAt
   next k o l t low h =
-      (r .number, record { lies = record { there = r .there; within = r .within; fits = and-first may _ (r .passed) }; laid = and-second may _ (r .passed) })
+      (r .number, record { lies = rw (same-leaves a rises-a k l) lies; laid = and-second may _ (r .passed) })
     where
       x : Axis
       x = axisOf (stepAt a k .axis)
 
-      r : Spot b (fitsAt x (stepAt a k .label) (lays (childrenOf a k))) x t
-      r = finds-spot b rises-b (fitsAt x (stepAt a k .label) (lays (childrenOf a k))) x t low (child-finds a rises-a (childrenOf b t) k o l h)
+      r : Spot b (fitsWith x (stepAt a k .label) (childrenOf a k)) x t
+      r = finds-spot b rises-b (fitsWith x (stepAt a k .label) (childrenOf a k)) x t low (child-finds a rises-a (childrenOf b t) k o l h)
+
+      starred : Bool
+      starred = leafWith (stepAt a k .label) (childrenOf a k)
 
       may : Bool
-      may = mayLie x (stepAt a k .label) (axisOf (stepAt b (r .number) .axis)) (stepAt b (r .number) .label)
+      may = mayLie x (stepAt a k .label) starred (axisOf (stepAt b (r .number) .axis)) (stepAt b (r .number) .label)
+
+      lies : LiesWell b (stepAt a k) starred t (r .number)
+      lies = record { there = r .there; within = r .within; fits = and-first may _ (r .passed) }
 
   -- one step more
   go-on : (n : ℕ) → n < length a → Begun a b n → Begun a b (suc n)
@@ -178,12 +221,12 @@ module _ (a b : List Step) (rises-a : Rising (stepParents a)) (rises-b : Rising 
       low : (k : ℕ) → k ≤ suc n → place k ≤ length b
       low = up-to n (λ k. place k ≤ length b) (λ k h. rw (before k h) (g .low k h)) (rw at-next (new .1 .lies .there .1))
 
-      lies-before : (k : ℕ) → k ≤ n → 1 ≤ k → LiesWell b (stepAt a k) (place (stepAt a k .parent)) (place k)
+      lies-before : (k : ℕ) → k ≤ n → 1 ≤ k → LiesWell b (stepAt a k) (isStarredLeaf a k) (place (stepAt a k .parent)) (place k)
       lies-before k h o = rw (before (stepAt a k .parent) (omega (arith, parent-before a rises-a k o (omega arith))), before k h) (g .lies k h o)
 
-      lies : (k : ℕ) → k ≤ suc n → 1 ≤ k → LiesWell b (stepAt a k) (place (stepAt a k .parent)) (place k)
+      lies : (k : ℕ) → k ≤ suc n → 1 ≤ k → LiesWell b (stepAt a k) (isStarredLeaf a k) (place (stepAt a k .parent)) (place k)
       lies =
-          up-to n (λ k. 1 ≤ k → LiesWell b (stepAt a k) (place (stepAt a k .parent)) (place k))
+          up-to n (λ k. 1 ≤ k → LiesWell b (stepAt a k) (isStarredLeaf a k) (place (stepAt a k .parent)) (place k))
           lies-before (λ o. rw (before p p-before, at-next) (new .1 .lies))
 
       laid : (k : ℕ) → k ≤ suc n → lays (childrenOf a k) (childrenOf b (place k)) ≡ true

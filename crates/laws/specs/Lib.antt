@@ -12,10 +12,12 @@ pub mod NumberedPlaces
 -- laying, and satisfying as laying
 pub mod StepPlaces
 pub mod Laying
+pub mod StarredLeaves
 pub mod CoversOfCovers
 pub mod Layings
 pub mod Documents
 pub mod Cutting
+pub mod CoveringAnswers
 -- merging
 pub mod Walking
 pub mod Choosing

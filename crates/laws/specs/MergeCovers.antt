@@ -1,10 +1,10 @@
 -- The merge of two patterns covers both, clipped or not, whatever the limit.
 use Prim.Native.Nat.{ℕ}
 use mathlib.Core.Path.{_≡_, refl}
-use mathlib.Core.Bool.{Bool, true, false, _&&_}
+use mathlib.Core.Bool.{Bool, true, false, _&&_, _||_}
 use lib.Dec.{eqb}
 use Rattle.base.specs.Choice.{pick}
-use Rattle.base.specs.Bools.{and-first, and-second, and-both, or-second}
+use Rattle.base.specs.Bools.{and-first, and-second, and-both, or-first, or-second}
 use Rattle.meaning.specs.Forest.{Axis, near, far, isNear, Forest, none, step}
 use Rattle.meaning.specs.Satisfying.{anyOrSame}
 use Rattle.meaning.specs.Covering.{mayLie, lays, covers}
@@ -19,7 +19,7 @@ use Rattle.laws.specs.JoinedBranches.{joined-lays}
 -- a label may lie on itself, and the common label on both
 same-label : (l : ℕ) → anyOrSame l l ≡ true
 unfolding mayLie
-same-label l = mayLie-refl far l
+same-label l = mayLie-refl far l true
 
 common-label : (l m : ℕ) → (anyOrSame (commonLabel l m) l ≡ true) × (anyOrSame (commonLabel l m) m ≡ true)
 unfolding commonLabel pick anyOrSame
@@ -58,7 +58,7 @@ unfolding alone lays pick FitsStep mayLie
 candidate-lies true child y body v l vs later both u fits =
     let child-and-near = both refl in
     lays-step near y (body .label) l (body .kids) none vs v (place-among (and-first child _ child-and-near) u here)
-    (and-both (isNear y) _ (and-second child _ child-and-near) (fits .0)) (fits .1) refl
+    (and-both (isNear y || _) _ (or-first (isNear y) _ (and-second child _ child-and-near)) (fits .0)) (fits .1) refl
 candidate-lies false child y body v l vs later both u fits =
     lays-step far y (body .label) l (body .kids) none vs v (place-under u here) (fits .0) (fits .1) refl
 

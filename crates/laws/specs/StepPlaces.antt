@@ -1,6 +1,6 @@
 -- Where a step looks in a forest for its place, and what is found there.
 use Prim.Native.Nat.{ℕ}
-use mathlib.Core.Path.{_≡_}
+use mathlib.Core.Path.{_≡_, refl}
 use mathlib.Core.Logic.{⊎-elim}
 use mathlib.Core.Bool.{Bool, true, _||_, false≢true}
 use Rattle.base.specs.Bools.{or-cases, or-first, or-second}
@@ -77,3 +77,9 @@ pub place-below : {x y z : Axis} {m n : ℕ} {j k f : Forest} → Place x f y m 
 place-below here q = below q
 place-below (after p) q = after (place-below p q)
 place-below (below p) q = below (place-below p q)
+
+-- where there is a place there is a root step
+pub some-root : {x y : Axis} {m : ℕ} {k f : Forest} → Place x f y m k → Found near (λ y m k. true) f
+some-root (here {y} {m} {kids}) = record { axis = y; label = m; kids = kids; place = here; passed = refl }
+some-root (after {z} {n} {kids} p) = record { axis = z; label = n; kids = kids; place = here; passed = refl }
+some-root (below {z} {n} {kids} p) = record { axis = z; label = n; kids = kids; place = here; passed = refl }

@@ -8,12 +8,12 @@ use lib.ListN.{replicate}
 use Rattle.base.specs.Choice.{pick}
 use Rattle.base.specs.Lists.{some, every, keep, total, without, numbersFrom}
 use Rattle.meaning.specs.Reader.{go-on, _>>=_, _>>_, give, repeat, unless, byte, bytes, number, end, numberOf}
-use Rattle.meaning.specs.Forest.{axisOf, axisNumber, isNear, Forest, none, size, childrenIn, forest, stepsFrom}
+use Rattle.meaning.specs.Forest.{axisOf, axisNumber, isNear, Forest, none, isNone, size, childrenIn, forest, stepsFrom}
 use Rattle.meaning.specs.Forest.{stepsOf, parentIn, isChild, isBelowIn, isBelow, reaches, beside}
 use Rattle.meaning.specs.Sections.{sameLabel, label, labels, upFrom, pathAfter, mayHang, isNearRoot, nearRoot, aStep, steps}
 use Rattle.meaning.specs.Sections.{pattern, sheet, Node, nodeParent, aNode, nodes, document, entry, table}
 use Rattle.meaning.specs.Satisfying.{anyOrSame, parentsOf, labelIn, fitsBelow, holdBelow, satisfies}
-use Rattle.meaning.specs.Covering.{mayLie, finds, fitsAt, lays, covers}
+use Rattle.meaning.specs.Covering.{starredLeaf, mayLie, finds, fitsAt, lays, covers}
 use Rattle.meaning.specs.Merging.{Merge, alone, joined, branchSize, laidOn, staysBeside, nothing, offer}
 use Rattle.meaning.specs.Merging.{commonLabel, bodyOf, meet, meetAt, across, through, mergeWithin, merge}
 use Rattle.meaning.specs.Building.{noEntry, entryAt, entrySteps, stepsTogether, entriesFrom, pair, coversOther, ascends}
@@ -69,8 +69,22 @@ satisfied =
 
 unfoldable pub covered : List Bool
 covered =
-    -- /* on //a: near only on near
-    covers (slash star none) (slashes a none)
+    -- /a on //a: near only on near
+    covers (slash a none) (slashes a none)
+    -- /* on //a and on //*/*: but a starred leaf on any child
+    ∷ covers (slash star none) (slashes a none)
+    ∷ covers (slash star none) (slashes star (slash star none))
+    -- /*/* on //*/*: with a child step it is no leaf
+    ∷ covers (slash star (slash star none)) (slashes star (slash star none))
+    -- /a/* on /a//b and on /a//b/c: so below any step
+    ∷ covers (slash a (slash star none)) (slash a (slashes b none))
+    ∷ covers (slash a (slash star none)) (slash a (slashes b (slash c none)))
+    -- /a[/*][/b], /a[/*][//b] and /a[//b][/*] on /a//b: each step for itself, whatever stands beside it
+    ∷ covers (slash a (beside (slash star none) (slash b none))) (slash a (slashes b none))
+    ∷ covers (slash a (beside (slash star none) (slashes b none))) (slash a (slashes b none))
+    ∷ covers (slash a (beside (slashes b none) (slash star none))) (slash a (slashes b none))
+    -- /* on a pattern without steps: there has to be a child
+    ∷ covers (slash star none) none
     -- //* on /a
     ∷ covers (slashes star none) (slash a none)
     -- //a on /b/a: far on any step strictly below
@@ -87,8 +101,13 @@ covered =
 
 unfoldable pub merges : List Merge
 merges =
-    -- /b with /a/b: all pairs below, and near not on far
+    -- /b with /a/b, and /a with /*/a: all pairs below, and a starred leaf is dropped for a far candidate
     merge (slash b none) (slash a (slash b none))
+    ∷ merge (slash a none) (slash star (slash a none))
+    -- [//b][/a] with /c: a starred leaf is skipped where a far candidate is kept
+    ∷ merge (beside (slashes b none) (slash a none)) (slash c none)
+    -- [/a/*][//c] with /a//b: a body with a starred leaf is taken where a far step is below
+    ∷ merge (beside (slash a (slash star none)) (slashes c none)) (slash a (slashes b none))
     -- //a//a with //c//a: a far candidate inside a kept one
     ∷ merge (slashes a (slashes a none)) (slashes c (slashes a none))
     -- /b with [//c][//b]: kept ones are dropped
@@ -103,8 +122,13 @@ merges =
 
 unfoldable pub expectedMerges : List Merge
 expectedMerges =
-    -- [/*][//b]
-    whole (beside (slash star none) (slashes b none))
+    -- //b, and //a
+    whole (slashes b none)
+    ∷ whole (slashes a none)
+    -- //*
+    ∷ whole (slashes star none)
+    -- /a/*
+    ∷ whole (slash a (slash star none))
     -- //*//a
     ∷ whole (slashes star (slashes a none))
     -- //b
@@ -135,8 +159,8 @@ unfoldable pub sizes : List Measured
 sizes =
     -- //a/a/b//a with /a/b/a/b: the root is not counted
     measured (merge (slashes a (slash a (slash b (slashes a none)))) (slash a (slash b (slash a (slash b none)))))
-    -- /a/c/c/a/b with //c[/b/b][/c/a]: the size is judged after the drops
-    ∷ measured (merge (slash a (slash c (slash c (slash a (slash b none))))) (slashes c (beside (slash b (slash b none)) (slash c (slash a none)))))
+    -- /a/a/b/b with //a/a/a/a/b: the size is judged after the drops
+    ∷ measured (merge (slash a (slash a (slash b (slash b none)))) (slashes a (slash a (slash a (slash a (slash b none))))))
     ∷ []
 
 -- ---- numbers
@@ -332,9 +356,9 @@ answers = record {
 unfoldable pub expected : All
 expected = record {
   satisfied = true ∷ false ∷ true ∷ false ∷ true ∷ true ∷ [];
-  covered = false ∷ true ∷ true ∷ false ∷ true ∷ false ∷ [];
+  covered = false ∷ true ∷ true ∷ false ∷ true ∷ true ∷ false ∷ true ∷ true ∷ false ∷ true ∷ true ∷ false ∷ true ∷ false ∷ [];
   merges = expectedMerges;
-  sizes = sized 16 false ∷ sized 12 false ∷ [];
+  sizes = sized 16 false ∷ sized 9 false ∷ [];
   numbers = 5 ∷ 5 ∷ 3 ∷ 3 ∷ 0 ∷ 0 ∷ 6 ∷ 9 ∷ 7 ∷ 8 ∷ 4 ∷ 2 ∷ 5 ∷ 1 ∷ 5 ∷ 4 ∷ 8 ∷ 12 ∷ 2 ∷ 1 ∷ 11 ∷ 0 ∷ 11 ∷ [];
   rounds = 1 ∷ 1 ∷ 2 ∷ 2 ∷ 3 ∷ [];
   settled = 3 ∷ [];
@@ -354,5 +378,5 @@ expected = record {
 
 pub told-apart : answers ≡ expected
 unfolding
-    answers expected satisfied covered merges expectedMerges measured sized sizes numbers sheetA nodeA rounds settled tries wants untilWanted untils sheetB tableA asks askedGivens askedGiven mergesInto leaves writings outputs givens refusal gives byNumber tabledGiven node onlyA aOverB aOverBOverC sheetR slash slashes beside a b c star ascii pick some every keep total without numbersFrom go-on _>>=_ _>>_ give repeat unless byte bytes number end numberOf axisOf isNear size childrenIn forest parentIn isChild isBelowIn isBelow reaches sameLabel label labels upFrom pathAfter mayHang isNearRoot nearRoot aStep steps pattern sheet nodeParent aNode nodes document entry table anyOrSame parentsOf labelIn fitsBelow holdBelow satisfies mayLie finds fitsAt lays covers alone joined branchSize laidOn staysBeside nothing offer commonLabel bodyOf meet meetAt across through mergeWithin merge noEntry entryAt entrySteps stepsTogether entriesFrom pair coversOther ascends pairsOf pairsBelow joinAt covering settleAt settleTimes settle saves better bestOf bestPair cut largest cutLargest mergeOrCut round roundsFrom build isMember hasMember entriesOf oneThatCovers eachInOne isPeopled isWithin fair deliverySet plainRoute membersOf triedFor tried wanted membersSay answerComes untilYes triedUntilWanted judged fairTable threeJudged isSubscription subscription sheetNumber documentNumber tableNumber labelsOf isLabel labelNumber matchesAnswer wantedAnswer withRoom after mergeWriting mergeAnswer stepsFrom stepsOf axisNumber stepBytes patternBytes flatMap
+    answers expected satisfied covered merges expectedMerges measured sized sizes numbers sheetA nodeA rounds settled tries wants untilWanted untils sheetB tableA asks askedGivens askedGiven mergesInto leaves writings outputs givens refusal gives byNumber tabledGiven node onlyA aOverB aOverBOverC sheetR slash slashes beside a b c star ascii pick some every keep total without numbersFrom go-on _>>=_ _>>_ give repeat unless byte bytes number end numberOf axisOf isNear size childrenIn forest parentIn isChild isBelowIn isBelow reaches sameLabel label labels upFrom pathAfter mayHang isNearRoot nearRoot aStep steps pattern sheet nodeParent aNode nodes document entry table anyOrSame parentsOf labelIn fitsBelow holdBelow satisfies isNone starredLeaf mayLie finds fitsAt lays covers alone joined branchSize laidOn staysBeside nothing offer commonLabel bodyOf meet meetAt across through mergeWithin merge noEntry entryAt entrySteps stepsTogether entriesFrom pair coversOther ascends pairsOf pairsBelow joinAt covering settleAt settleTimes settle saves better bestOf bestPair cut largest cutLargest mergeOrCut round roundsFrom build isMember hasMember entriesOf oneThatCovers eachInOne isPeopled isWithin fair deliverySet plainRoute membersOf triedFor tried wanted membersSay answerComes untilYes triedUntilWanted judged fairTable threeJudged isSubscription subscription sheetNumber documentNumber tableNumber labelsOf isLabel labelNumber matchesAnswer wantedAnswer withRoom after mergeWriting mergeAnswer stepsFrom stepsOf axisNumber stepBytes patternBytes flatMap
 told-apart = refl

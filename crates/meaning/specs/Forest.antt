@@ -29,6 +29,11 @@ pub data Forest : Type 0 where
   none : Forest
   step : Axis → ℕ → Forest → Forest → Forest
 
+-- there is no step
+unfoldable pub isNone : Forest → Bool
+isNone none = true
+isNone (step a l kids later) = false
+
 -- the number of steps
 unfoldable pub size : Forest → ℕ
 size none = 0

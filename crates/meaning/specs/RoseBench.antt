@@ -55,15 +55,14 @@ tableR0 =
     ∷ 0x00
     ∷ []
 
--- [//CD[/*][//Bach]][//*/Bach], as it is written
+-- [//CD//Bach][//*/Bach], as it is written
 unfoldable pub mergeR01 : List ℕ
 mergeR01 =
-    0x05
+    0x04
     ∷ 0x00 ∷ 0x01 ∷ 0x01
-    ∷ 0x01 ∷ 0x00 ∷ 0x00
     ∷ 0x01 ∷ 0x01 ∷ 0x03
     ∷ 0x00 ∷ 0x01 ∷ 0x00
-    ∷ 0x04 ∷ 0x00 ∷ 0x03
+    ∷ 0x03 ∷ 0x00 ∷ 0x03
     ∷ []
 
 -- ---- patterns in the paper's notation

@@ -8,7 +8,7 @@ use Rattle.base.specs.Choice.{pick}
 use Rattle.base.specs.Lists.{some, keep, total}
 use Rattle.base.specs.ListLaws.{some-same}
 use Rattle.meaning.specs.Forest.{Axis, near, far, Forest, none, step, size, stepsFrom, stepsOf, beside}
-use Rattle.meaning.specs.Covering.{finds, fitsAt, lays, covers}
+use Rattle.meaning.specs.Covering.{finds, lays, covers}
 use Rattle.meaning.specs.Merging.{Branch, alone, joined, branchSize, laidOn, staysBeside, Building}
 use Rattle.meaning.specs.declared.Step.{Step}
 use Rattle.shapes.specs.Shapes.{patternOf, stepsIn, WellFormed}
@@ -16,6 +16,7 @@ use Rattle.shapes.specs.declared.Pattern.{Pattern}
 use Rattle.shapes.specs.Steps.{root-children, count-size}
 use Rattle.shapes.specs.Holding.{Holds, StandsFor, stands}
 use Rattle.laws.specs.Children.{childrenOf}
+use Rattle.laws.specs.Laying.{fitsWith}
 use Rattle.laws.specs.JoinedBranches.{joined-size}
 
 -- the root branches of a forest, in their order
@@ -113,7 +114,7 @@ finds-some far passes (step y m kids later) =
 pub skipped : (c : Branch) (f : Forest) → some (laidOn c) (branchesOf f) ≡ covers (alone c) f
 unfolding laidOn covers lays alone
 skipped c f =
-    let passes = fitsAt (c .axis) (c .label) (lays (c .kids)) in
+    let passes = fitsWith (c .axis) (c .label) (c .kids) in
     some-same (laidOn c) (λ k. finds (c .axis) passes (alone k)) (branchesOf f) (λ k. and-true (finds (c .axis) passes (alone k)))
     ∙ finds-some (c .axis) passes f ∙ sym (and-true (finds (c .axis) passes f))
 

@@ -1,17 +1,23 @@
 -- The steps of a well-formed pattern by value: how many there are, each by its number and by its place, and what is below it.
 use Prim.Native.Nat.{ℕ, zero, suc, _+_, _-_, _≤_, _<_}
 use mathlib.Core.Path.{_≡_, sym, _∙_, ap, subst}
+use mathlib.Core.Logic.{⊎-elim}
+use mathlib.Core.Bool.{true, false, not}
 use mathlib.Core.List.{List, [], _∷_}
 use native.Mathlib.Omega.{arith}
 use native.Mathlib.Numerals.{add-one}
+use lib.Dec.{eqb}
 use lib.ListN.{length, getD, drop, drop-of-length-le}
 use lib.Seq.{drop-cons, getD-take, length-take-le}
-use Rattle.meaning.specs.Forest.{axisOf, none, step, size}
+use borrow.Author.Tests.{eqb-true, eqb-false}
+use Rattle.base.specs.Bools.{true-or-false}
+use Rattle.meaning.specs.Forest.{axisOf, none, step, isNone, size}
 use Rattle.meaning.specs.Covering.{stepAt, stepParents}
 use Rattle.meaning.specs.declared.Step.{Step}
 use Rattle.laws.specs.Rising.{Rising}
 use Rattle.laws.specs.Bridge.{length-stepsOf}
-use Rattle.laws.specs.Blocks.{Block, block-of}
+use Rattle.laws.specs.Outside.{read-back}
+use Rattle.laws.specs.Blocks.{Block, block-of, empty-block}
 use Rattle.laws.specs.WrittenRising.{written-rises}
 use Rattle.laws.specs.Children.{childrenFrom, childrenOf, children-of-root, child-first, other-first, none-first, parent-before}
 use Rattle.shapes.specs.Shapes.{stepsIn, patternOf, WellFormed}
@@ -88,3 +94,31 @@ module _ (p : Pattern) (sound : WellFormed p) where
     -- none is left
     pub children-end : p .count ≤ k → childrenFrom (stepsIn p) v k ≡ none
     children-end h = none-first (stepsIn p) v k (rw length-steps h)
+
+  -- ---- whether step v has child steps is told by the step after it
+  module _ (v : ℕ) where
+    -- there is none
+    pub last-is-leaf : p .count ≤ v → true ≡ isNone (childrenOf (stepsIn p) v)
+    unfolding isNone childrenOf
+    last-is-leaf h = ap isNone (sym (children-end v v h))
+
+    -- it hangs on v
+    has-child : v < p .count → stepIn p v .parent ≡ v → isNone (childrenOf (stepsIn p) v) ≡ false
+    unfolding isNone childrenOf
+    has-child h e = ap isNone (child-here v v h e)
+
+    -- it hangs elsewhere
+    is-leaf : v < p .count → (stepIn p v .parent ≡ v → ⊥) → isNone (childrenOf (stepsIn p) v) ≡ true
+    unfolding isNone childrenOf childrenFrom
+    is-leaf h e =
+        let b : Block v (stepIn p v ∷ drop (suc v) (stepsIn p)) = rw (← steps-from v h) (block-in v (omega arith)) in
+        let read = read-back v (suc v) (b .below) (b .after) (omega arith) (b .outside) in
+        rw (steps-from v h, b .split, read) (ap isNone (empty-block b e))
+
+    -- either way it tells
+    pub next-tells : v < p .count → not (eqb (stepIn p v .parent) v) ≡ isNone (childrenOf (stepsIn p) v)
+    next-tells h =
+        ⊎-elim
+        (λ e. ap not e ∙ sym (has-child h (eqb-true (stepIn p v .parent) v e)))
+        (λ e. ap not e ∙ sym (is-leaf h (eqb-false (stepIn p v .parent) v e)))
+        (true-or-false (eqb (stepIn p v .parent) v))

@@ -17,6 +17,7 @@ use Rattle.covering.proofs.+all_lie+some_fits.Lts-all_lie as all-lie-lt
 use Rattle.covering.proofs.some_fits.Reads as some-fits
 use Rattle.covering.proofs.some_fits.Kinds as some-fits-kinds
 use Rattle.covering.proofs.+all_lie+some_fits.Lts-some_fits as some-fits-lts
+use Rattle.covering.proofs.steps.starred_leaf.Reads as starred-leaf
 use Rattle.covering.proofs.steps.may_lie_below.Reads as may-lie-below
 use Rattle.covering.proofs.known_at.Reads as known-at
 use Rattle.covering.proofs.note.Reads as note
@@ -91,13 +92,24 @@ all-lie-returns-2 t c =
 
 -- ---- some_fits: some place from place u on fits exactly if some does
 abbrev some-fits-Inv-loop : some-fits-lts.InvT-loop
-some-fits-Inv-loop k w notes₀ a b s u₀ notes u = Noted a b notes × Fitting (stepsIn a) k s b w u
+some-fits-Inv-loop k w notes₀ a b s starred u₀ notes u = Noted a b notes × Fitting (stepsIn a) k s starred b w u
 
 abbrev some-fits-μ-loop : some-fits-lts.MeasureT-loop
-some-fits-μ-loop k w notes₀ a b s u₀ notes u = b .count - u
+some-fits-μ-loop k w notes₀ a b s starred u₀ notes u = b .count - u
 
 abbrev some-fits-calls : ℕ → some-fits-lts.Claims
-some-fits-calls t = (may-lie-below.Asked, may-lie-below.Learnt, known-at.Asked, known-at.Learnt, all-lie-below t, all-lie.Post, note.Asked, note.Learnt)
+some-fits-calls t = (
+  starred-leaf.Asked,
+  starred-leaf.Learnt,
+  may-lie-below.Asked,
+  may-lie-below.Learnt,
+  known-at.Asked,
+  known-at.Learnt,
+  all-lie-below t,
+  all-lie.Post,
+  note.Asked,
+  note.Learnt,
+)
 
 abbrev SomeFits :
     (some-fits-lts.Claims → In 1 some-fits-kinds.ps → Out 1 some-fits-kinds.ps some-fits-kinds.r
@@ -107,9 +119,9 @@ SomeFits need = (t : ℕ) → need (some-fits-calls t) (some-fits-at t) some-fit
 some-fits-loop-holds : SomeFits some-fits-lts.Need-loop-holds
 unfolding stepIn
 some-fits-loop-holds t c =
-    let s = c .before .args in
-    let h = c .before .pre .1 in
-    (h .0, search-starts _ _ _ _ _ (h .0 .second) (h .3) (step-number (s .t1) (h .0 .first) (s .k) (h .1) (h .2)))
+    let s = c .before .before .args in
+    let h = c .before .before .pre .1 in
+    (h .0, search-starts _ _ _ _ _ _ (h .0 .second) (h .3) (step-number (s .t1) (h .0 .first) (s .k) (h .1) (h .2)) (c .starred-leaf .ensures))
 
 some-fits-returns : SomeFits some-fits-lts.Need-returns
 unfolding stepIn
@@ -123,7 +135,7 @@ some-fits-returns-2 t c =
     let known = c .before in
     let asked = known .before .before in
     let l = asked .before .before .before .before .before in
-    let s = l .before .before .args in
+    let s = l .before .before .before .args in
     let i = l .loop .inv in
     let pair : PairOfSteps (s .k) (l .loop .u + 1) = omega arith in
     let lies = known-lies (i .0) (s .k) (l .loop .u + 1) pair _ (known .known-at .ensures) (c .if2 .taken) in
@@ -138,9 +150,10 @@ some-fits-returns-3 t c =
     let asked = known .before .before in
     let turn = asked .before .before .before .before in
     let l = turn .before in
-    let s = l .before .before .args in
+    let start = l .before .before .before in
+    let s = start .args in
     let below = turn .loop-test .taken in
-    let pair : PairOfSteps (s .k) (l .loop .u + 1) = omega arith in
+    let pair : PairOfSteps (s .k) (l .loop .u + 1) = omega (arith, start .pre .1) in
     let r = children-decide (lie .all-lie .ensures .1) (s .k) (l .loop .u + 1) pair _ _ (known .known-at .ensures) (unknown .if3 .taken)
     (lie .all-lie .ensures .0) (c .before .note .ensures) in
     (place-fits (l .loop .inv .1) below (asked .before .if1 .left) (asked .may-lie-below .ensures) (r .0) (c .if4 .taken), r .1)
@@ -154,9 +167,10 @@ some-fits-loop-again t c =
     let asked = known .before .before in
     let turn = asked .before .before .before .before in
     let l = turn .before in
-    let s = l .before .before .args in
+    let start = l .before .before .before in
+    let s = start .args in
     let below = turn .loop-test .taken in
-    let pair : PairOfSteps (s .k) (l .loop .u + 1) = omega arith in
+    let pair : PairOfSteps (s .k) (l .loop .u + 1) = omega (arith, start .pre .1) in
     let r = children-decide (lie .all-lie .ensures .1) (s .k) (l .loop .u + 1) pair _ _ (known .known-at .ensures) (unknown .if3 .taken)
     (lie .all-lie .ensures .0) (c .before .note .ensures) in
     (r .1, place-doesn't (l .loop .inv .1) below (asked .before .if1 .left) (asked .may-lie-below .ensures) (r .0) (c .if4 .left))
@@ -167,7 +181,7 @@ some-fits-loop-again-2 t c =
     let known = c .before .before in
     let asked = known .before .before in
     let l = asked .before .before .before .before .before in
-    let s = l .before .before .args in
+    let s = l .before .before .before .args in
     let i = l .loop .inv in
     let pair : PairOfSteps (s .k) (l .loop .u + 1) = omega arith in
     let doesn't = known-doesn't (i .0) (s .k) (l .loop .u + 1) pair _ (known .known-at .ensures) (c .if3 .left) in
@@ -192,6 +206,8 @@ pub +all-lie+some-fits-spec : {M : Type 1} → statement M
     (all-lie-returns-2 t))
     λ t. some-fits-lts.spec (some-fits-calls t) (some-fits-at t) some-fits.Post some-fits-Inv-loop some-fits-μ-loop
     (λ c. omega arith) (λ c. omega arith) (λ c. omega arith)
+    -- what starred_leaf asks
+    (λ c κs. (c .before .pre .1 .0 .first, omega arith, omega arith))
     (some-fits-loop-holds t) (λ c. omega arith) (λ c. omega arith) (λ c. search needs)
     (some-fits-returns t)
     (λ c. omega arith)
