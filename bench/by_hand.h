@@ -94,6 +94,10 @@ typedef struct {
     uint8_t notes[MOST_STEPS][MOST_STEPS];
 } Laying;
 
+// Is step k labelled any, and without child steps? Then it lies on any child, near or far, of its parent's place,
+// whether it is near itself or far.
+bool is_starred_leaf(const Pattern *pattern, unsigned k);
+
 bool children_lie(Laying *laying, unsigned v, unsigned w);
 bool lies_at(Laying *laying, unsigned v, unsigned w);
 bool covers(const Pattern *a, const Pattern *b);

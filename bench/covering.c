@@ -1,12 +1,24 @@
 // Covering, by functions that call each other. In preorder the steps below w are the stretch after w that ends where a
-// parent is less than w.
+// parent is less than w, and w has a child exactly if the next step hangs on it.
 #include "by_hand.h"
+
+static bool has_child(const Pattern *pattern, unsigned w)
+{
+    return w < pattern->count && pattern->steps[w].parent == w;
+}
+
+bool is_starred_leaf(const Pattern *pattern, unsigned k)
+{
+    return pattern->steps[k - 1].label == ANY && !has_child(pattern, k);
+}
 
 // Is there a place below step w for step k?
 static bool finds_place(Laying *laying, unsigned k, unsigned w)
 {
     Step step = laying->laid->steps[k - 1];
     const Pattern *ground = laying->ground;
+    if (is_starred_leaf(laying->laid, k))
+        return has_child(ground, w);
     for (unsigned u = w + 1; u <= ground->count && ground->steps[u - 1].parent >= w; u++) {
         Step place = ground->steps[u - 1];
         if (step.axis == NEAR && (place.axis != NEAR || place.parent != w))

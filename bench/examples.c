@@ -118,7 +118,7 @@ static void rose_covers(void)
     expect_covers(rose_labels, "//Bach //CD/Bach", true);
     expect_covers(rose_labels, ". /CD[/SONY][/*/Bach]", true);
     expect_covers(rose_labels, "//* .", false);
-    expect_covers(rose_labels, "/* //CD", false);
+    expect_covers(rose_labels, "/* //CD", true);
     expect_covers("b", "/*//b //*/b", false);
     expect_covers("b", "//*/b /*//b", false);
 }
@@ -126,7 +126,7 @@ static void rose_covers(void)
 static void rose_merges_and_builds(Part rose)
 {
     expect_merge("a b c", "/a/b /a/c", "/a/*");
-    expect_merge(rose_labels, "/CD[/SONY][/*/Bach] //CD/Bach", "[//CD[/*][//Bach]][//*/Bach]");
+    expect_merge(rose_labels, "/CD[/SONY][/*/Bach] //CD/Bach", "[//CD//Bach][//*/Bach]");
     expect_build("10: R at limit 3", rose, 3, table_of(rose_labels, "2 //CD/Bach 5 /CD"), 0);
     expect_build("11: R at limit 2", rose, 2, table_of(rose_labels, "7 //CD"), 1);
     expect_build("11: R at limit 0", rose, 0, table_of(rose_labels, "7 ."), 2);
@@ -304,13 +304,13 @@ static void told_apart(void)
     expect_plain("two steps on one node", sheet_of("a b", "/a[/b][/*]"), document_of("", "0 1 1 2"), 0, 1);
     expect_plain("near and far", sheet_of("a b c", "/a/c /a//c"), document_of("", "0 1 1 2 2 3"), 0, 2);
     expect_plain("nodes in no preorder", sheet_of("a b c", "/a[/b/c][/c]"), document_of("", "0 1 1 2 1 3 2 3"), 0, 1);
-    expect_merge("a b c", "/b /a/b", "[/*][//b]");
+    expect_merge("a b c", "/b /a/b", "//b");
     expect_merge("a b c", "//a//a //c//a", "//*//a");
     expect_merge("a b c", "/b [//c][//b]", "//b");
     expect_merge("a b c", "//a//b /b//a", "[//*//*][//a][//b]");
     expect_merge("a b c", "/c[/b][//b] //c//c/b", "//c[/b][//b]");
     expect_merge_size("a b c", "//a/a/b//a /a/b/a/b", 16, false);
-    expect_merge_size("a b c", "/a/c/c/a/b //c[/b/b][/c/a]", 12, false);
+    expect_merge_size("a b c", "/a/c/c/a/b //c[/b/b][/c/a]", 11, false);
     Part three = sheet_of("a b c d", "/a/b /a/c //d");
     expect_build("three at limit 3", three, 3, table_of("a b c d", "3 /a/* 4 //d"), 1);
     expect_build("three at limit 0", three, 0, table_of("a b c d", "7 ."), 3);

@@ -61,9 +61,11 @@ static void copy_body(Pattern *body, const Pattern *from, unsigned v)
     body->steps[0].parent = 0;
 }
 
-// With both hung on one parent, does c find a place on k? A far c may also go deeper.
+// With both hung on one parent, does c find a place on k? A starred leaf does on any; a far c may also go deeper.
 static bool laid_on(const Candidate *c, const Candidate *k)
 {
+    if (is_starred_leaf(c->body, 1))
+        return true;
     if (c->axis == NEAR && k->axis == FAR)
         return false;
     Laying laying = {c->body, k->body, {{UNKNOWN}}};
