@@ -295,6 +295,41 @@ static void wanted_or_not(Part rose)
     expect_wanted("a sheet without subscriptions", sheet_of("", ""), table_of("", ""), document_of("x", "0 1"), no);
 }
 
+// ---- a near step labelled any, without child steps, lies on any child
+
+static void starred_leaf_covers(void)
+{
+    expect_covers("a b c", "/* //*/*", true);
+    expect_covers("a b c", "/*/* //*/*", false);
+    expect_covers("a b c", "/a //a", false);
+    expect_covers("a b c", "/* .", false);
+    expect_covers("a b c", "/a/* /a", false);
+    expect_covers("a b c", "/a/* /a//b/c", true);
+    expect_covers("a b c", "/a[/*][//b] /a//b", true);
+    expect_covers("a b c", "/a[/*][/b] /a//b", false);
+    expect_covers("a b c", "[/a/*][//b] [/a][//b]", false);
+}
+
+static void starred_leaf_merges(void)
+{
+    expect_merge("a b c", "/* //a", "/*");
+    expect_merge("a b c", "//a /*", "/*");
+    expect_merge("a b c", "/a //b", "//*");
+    expect_merge("a b c", "/a /*/a", "//a");
+    expect_merge("a b c", "[//b][/a] [//b][/c]", "//b");
+    expect_merge("a b c", "[//a/*][//b] //a//c", "//a/*");
+    expect_merge("a b c", "/a/c/c/a/b //c[/b/b][/c/a]", "[//c[/*//b][/c/a][//*/b]][//c[/*/b][//a]]");
+}
+
+static void starred_leaf_tables(void)
+{
+    Part one = sheet_of("a b", "/a//b"), two = sheet_of("a b", "/a//b /a/*"), document = document_of("", "0 1 1 2");
+    expect_build("settled by a starred leaf", two, 3, table_of("a b", "3 /a/*"), 0);
+    expect_build("a round that drops a starred leaf", sheet_of("a", "/a /*/a"), 2, table_of("a", "3 //a"), 1);
+    expect_table("a starred leaf for a far step is fair", one, table_of("a b", "1 /a/*"), document, (Tabled){0, 1, 2});
+    expect_refused("a near b for a far one is not", one, table_of("a b", "1 /a/b"), document, 12);
+}
+
 // ---- what an easy misreading would get wrong
 
 static void told_apart(void)
@@ -309,8 +344,8 @@ static void told_apart(void)
     expect_merge("a b c", "/b [//c][//b]", "//b");
     expect_merge("a b c", "//a//b /b//a", "[//*//*][//a][//b]");
     expect_merge("a b c", "/c[/b][//b] //c//c/b", "//c[/b][//b]");
+    expect_merge("a b c", "/a/a/b/b //a/a/a/a/b", "[//a[/a/*/b][//a/b]][//a/a/b]");
     expect_merge_size("a b c", "//a/a/b//a /a/b/a/b", 16, false);
-    expect_merge_size("a b c", "/a/c/c/a/b //c[/b/b][/c/a]", 11, false);
     Part three = sheet_of("a b c d", "/a/b /a/c //d");
     expect_build("three at limit 3", three, 3, table_of("a b c d", "3 /a/* 4 //d"), 1);
     expect_build("three at limit 0", three, 0, table_of("a b c d", "7 ."), 3);
@@ -334,6 +369,9 @@ unsigned failed_examples(const Side *of, unsigned *count)
     table_numbers(rose);
     asked_for(rose);
     wanted_or_not(rose);
+    starred_leaf_covers();
+    starred_leaf_merges();
+    starred_leaf_tables();
     told_apart();
     ask_line_examples(of);
     *count = asked;
