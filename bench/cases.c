@@ -49,15 +49,32 @@ void add_question(Case *to, Question question)
 
 // ---- routes
 
-// One case of a route over some documents. The table, where there is one, has half of the steps.
+// A random sheet and its table for half of the steps. Some sheets get a table of next to nothing, which leaves little to
+// judge and spares no try; they are drawn again, until the table has a quarter. What is drawn again shifts no later input.
+static void draw_with_table(Question *to, unsigned subscriptions, Shape shape)
+{
+    unsigned half = subscriptions * shape.steps / 2;
+    to->sheet = random_sheet(LABELS, subscriptions, shape);
+    to->table = built_table(to->sheet, (uint16_t)half);
+    uint64_t after_one = random_place();
+    while (2 * steps_in(to->table) < half) {
+        to->sheet = random_sheet(LABELS, subscriptions, shape);
+        to->table = built_table(to->sheet, (uint16_t)half);
+    }
+    start_random(after_one);
+}
+
+// One case of a route over some documents.
 static void add_route(Call call, Case *to, unsigned nodes, unsigned subscriptions, Shape shape)
 {
-    Part sheet = random_sheet(LABELS, subscriptions, shape), table = {NULL, 0};
+    Question question = {.call = call};
     if (call == TABLE_ROUTE)
-        table = built_table(sheet, (uint16_t)(subscriptions * shape.steps / 2));
+        draw_with_table(&question, subscriptions, shape);
+    else
+        question.sheet = random_sheet(LABELS, subscriptions, shape);
     for (unsigned i = 0; i < DOCUMENTS; i++) {
-        Part document = random_document(LABELS, nodes);
-        add_question(to, (Question){call, .sheet = sheet, .table = table, .document = document});
+        question.document = random_document(LABELS, nodes);
+        add_question(to, question);
     }
 }
 

@@ -8,6 +8,11 @@ void start_random(uint64_t seed)
     state = seed;
 }
 
+uint64_t random_place(void)
+{
+    return state;
+}
+
 // splitmix64
 static uint64_t random_bits(void)
 {

@@ -14,6 +14,9 @@ typedef struct {
 
 void start_random(uint64_t seed);
 
+// Where the random numbers have come to: started from there, they go on as they would have.
+uint64_t random_place(void);
+
 Part random_sheet(unsigned labels, unsigned patterns, Shape shape);
 
 // A sheet of one pattern and so many labels, which have these lengths and are alike but for their last two bytes.

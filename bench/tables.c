@@ -1,7 +1,8 @@
-// The tables that are routed by, each built by hand.
+// The tables that are routed by, and those that were built and passed over, each built by hand.
 #include "tables.h"
+#include "by_hand.h"
 
-enum { MOST_TABLES = 32 };
+enum { MOST_TABLES = 64 };
 
 static Question builds[MOST_TABLES];
 
@@ -21,4 +22,10 @@ Part built_table(Part sheet, uint16_t limit)
     for (size_t i = 0; i < answer.length; i++)
         put(answer.out[i]);
     return end_part();
+}
+
+unsigned steps_in(Part table)
+{
+    size_t without_steps = 1 + 9 * (size_t)table.at[0]; // the count, and for each entry its members and its own count
+    return (unsigned)((table.length - without_steps) / sizeof(Step));
 }

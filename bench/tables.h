@@ -1,4 +1,4 @@
-// The tables that are routed by.
+// The tables that are routed by, and those that were built and passed over.
 #ifndef TABLES_H
 #define TABLES_H
 
@@ -10,5 +10,8 @@ extern Case tables;
 
 // The table that a sheet gets for a limit.
 Part built_table(Part sheet, uint16_t limit);
+
+// How many steps its entries have together.
+unsigned steps_in(Part table);
 
 #endif
