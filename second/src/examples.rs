@@ -1,11 +1,12 @@
 //! The rose bench examples of document 01 and the readings that docs/DECISIONS.md takes, asked as questions. Those about
-//! lines stand in `line_examples`.
+//! starred leaves stand in `starred_examples`, those about lines in `line_examples`.
 
 use crate::answers::answer;
 use crate::line_examples;
 use crate::notation::pattern;
 use crate::printing::printed;
 use crate::question::Question;
+use crate::starred_examples;
 use crate::trees::{written, written_table, Entry};
 
 pub const ROSE_LABELS: [&str; 3] = ["CD", "SONY", "Bach"];
@@ -35,6 +36,7 @@ pub fn all() -> Vec<Example> {
     limit_examples(&mut list);
     byte_examples(&mut list);
     misreadings(&mut list);
+    starred_examples::add_all(&mut list);
     line_examples::add_all(&mut list);
     list
 }
@@ -136,7 +138,7 @@ fn covering_examples(list: &mut Vec<Example>) {
     ask("4: //Bach covers s1", "//Bach", s1, 1);
     ask("5: no steps cover s0", ".", s0, 1);
     ask("5: //* and no steps", "//*", ".", 0);
-    ask("6: /* and //CD", "/*", "//CD", 0);
+    ask("6: /* covers //CD", "/*", "//CD", 1);
     ask("7: /*//b and //*/b", "/*//b", "//*/b", 0);
     ask("7: //*/b and /*//b", "//*/b", "/*//b", 0);
 }
@@ -148,7 +150,7 @@ fn merging(labels: &[&str], first: &str, second: &str) -> Question {
     merge
 }
 
-fn add_merge(list: &mut Vec<Example>, name: &str, labels: &[&str], texts: [&str; 3]) {
+pub fn add_merge(list: &mut Vec<Example>, name: &str, labels: &[&str], texts: [&str; 3]) {
     let [first, second, merged] = texts;
     let bytes = written(&pattern(merged, labels));
     let mut merge = merging(labels, first, second);
@@ -166,17 +168,22 @@ fn merging_examples(list: &mut Vec<Example>) {
     let texts = ["/a/b", "/a/c", "/a/*"];
     add_merge(list, "8: /a/b with /a/c", &ABC, texts);
     let [s0, s1, _] = ROSE_PATTERNS;
-    let texts = [s0, s1, "[//CD[/*][//Bach]][//*/Bach]"];
+    let texts = [s0, s1, "[//CD//Bach][//*/Bach]"];
     add_merge(list, "9: s0 with s1", &ROSE_LABELS, texts);
 }
 
-fn rose_table(entries: &[(u64, &str)]) -> Vec<u8> {
+/// A table of entries (members, pattern).
+pub fn table_of(labels: &[&str], entries: &[(u64, &str)]) -> Vec<u8> {
     let entry = |&(members, text): &(u64, &str)| Entry {
         members,
-        pattern: pattern(text, &ROSE_LABELS),
+        pattern: pattern(text, labels),
     };
     let entries: Vec<Entry> = entries.iter().map(entry).collect();
     written_table(&entries)
+}
+
+fn rose_table(entries: &[(u64, &str)]) -> Vec<u8> {
+    table_of(&ROSE_LABELS, entries)
 }
 
 fn building_examples(list: &mut Vec<Example>) {
@@ -355,7 +362,7 @@ fn byte_examples(list: &mut Vec<Example>) {
 
 fn misreadings(list: &mut Vec<Example>) {
     let merges = [
-        ("near laid on far", ["/b", "/a/b", "[/*][//b]"]),
+        ("near laid on far", ["/b/a", "/a/b/a", "[/*//a][//b/a]"]),
         ("inside forgotten", ["//a//a", "//c//a", "//*//a"]),
         ("no drops", ["/b", "[//c][//b]", "//b"]),
         ("w' outside", ["//a//b", "/b//a", "[//*//*][//a][//b]"]),
@@ -372,8 +379,8 @@ fn misreadings(list: &mut Vec<Example>) {
     let as_found = format!("10 0 0 {}", "a5".repeat(48));
     add(list, "the root counted, no room", sixteen, &as_found);
     unclipped(list, "the root counted", ["//a/a/b//a", "/a/b/a/b"], 16);
-    let texts = ["/a/c/c/a/b", "//c[/b/b][/c/a]"];
-    unclipped(list, "size tested before drops", texts, 12);
+    let texts = ["//b/b/b", "/b//*/a/a/b//a"];
+    unclipped(list, "size tested before drops", texts, 13);
 }
 
 /// Of these merges only the number of steps is said, and that they are not clipped.

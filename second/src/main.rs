@@ -32,6 +32,7 @@ mod random;
 mod reading;
 mod routing;
 mod satisfying;
+mod starred_examples;
 mod trees;
 
 use question::LETTERS;
@@ -75,8 +76,8 @@ second --be-table
 
 second --self-test
     Checks this program's own answers against the examples of document 01, the readings of
-    docs/DECISIONS.md, lines that are read, refused or written, and what easy misreadings
-    would answer.
+    docs/DECISIONS.md, what starred leaves cover, lines that are read, refused or written,
+    and what easy misreadings would answer.
 
 second --help
     Prints this.

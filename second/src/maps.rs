@@ -57,6 +57,8 @@ fn some_map(from: usize, to: usize, wanted: impl Fn(&[usize]) -> bool) -> bool {
 
 fn is_laying(from: &[Step], to: &[Step], map: &[usize]) -> bool {
     let parent_of = |place: usize| to[place - 1].parent;
+    // A step is a leaf if no step is its child.
+    let is_leaf = |number: usize| from.iter().all(|step| step.parent != number);
     from.iter().enumerate().all(|(i, step)| {
         let place = map[i + 1];
         let below = map[step.parent];
@@ -64,7 +66,8 @@ fn is_laying(from: &[Step], to: &[Step], map: &[usize]) -> bool {
         let fits = if step.far {
             is_strictly_below(place, below, parent_of)
         } else {
-            !to[place - 1].far && parent_of(place) == below
+            let starred_leaf = step.label == 0 && is_leaf(i + 1);
+            parent_of(place) == below && (starred_leaf || !to[place - 1].far)
         };
         same && fits
     })
