@@ -16,6 +16,8 @@ mod covering;
 mod draw;
 mod examples;
 mod labels;
+#[cfg(test)]
+mod laying_tests;
 mod line_answers;
 mod line_examples;
 #[cfg(test)]
