@@ -2,8 +2,9 @@
 
 use crate::building::build;
 use crate::covering::covers;
+use crate::kinds::{CLIPPED_ONLY_BELOW, CUTS_AMONG_SEVERAL, LAST_ALONE};
 use crate::labels::label;
-use crate::line_answers::{self, READ_KINDS, WRITTEN_KINDS};
+use crate::line_answers;
 use crate::lines::not_a_line;
 use crate::maps::{covers_checked, satisfies_checked};
 use crate::merging::{merge, Rule};
@@ -13,15 +14,6 @@ use crate::reading;
 use crate::routing::{fair, plain_route, table_route, wanted, Found};
 use crate::trees::{written, written_table, Document, Entry, Pattern, Sheet};
 use std::io::{self, Write};
-
-/// The kind of a merge where no candidate was left out at the roots, but one further down.
-pub const CLIPPED_ONLY_BELOW: &str = "clipped only below";
-
-/// The kind of a build where a cut had several entries to choose from.
-pub const CUTS_AMONG_SEVERAL: &str = "cuts among several";
-
-/// The kind of a yes that comes only from the last subscription that a sheet can have.
-pub const LAST_ALONE: &str = "yes, by number 63 alone";
 
 /// What each lent byte holds before the call.
 const AS_FOUND: u8 = 0xa5;
@@ -297,40 +289,6 @@ fn label_bytes(question: &Question) -> Result<Values, Refusal> {
         "of the document"
     };
     Ok(Values(format!(" {}", hex(bytes)), kind))
-}
-
-/// The kinds of answer that each letter can give when it is done.
-pub fn kinds_of(letter: u8) -> &'static [&'static str] {
-    match letter {
-        b'S' | b'D' | b'T' => &["sound"],
-        b'M' | b'C' => &["no", "yes"],
-        b'G' => &[
-            "i covers j",
-            "j covers i",
-            "built",
-            "clipped",
-            CLIPPED_ONLY_BELOW,
-        ],
-        b'B' => &[
-            "no rounds",
-            "rounds of merges",
-            "cuts of a single entry",
-            CUTS_AMONG_SEVERAL,
-        ],
-        b'P' => &["to none", "to some"],
-        b'R' => &["no entry matches", "entries match, to none", "to some"],
-        b'W' => &[
-            "no, no entry matches",
-            "no, though one matches",
-            "yes, at the first entry",
-            "yes, at a later entry",
-            "yes, after one in vain",
-            LAST_ALONE,
-        ],
-        b'N' => &READ_KINDS,
-        b'V' | b'U' => &WRITTEN_KINDS,
-        _ => &["of the sheet", "of the document"],
-    }
 }
 
 /// The lines for a whole stream, as `ask` writes them.

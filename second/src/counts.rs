@@ -1,7 +1,8 @@
 //! What came up: counts by letter and number, by the part that was refused, by kind of answer.
 
-use crate::answers::{kinds_of, Outcome};
+use crate::answers::Outcome;
 use crate::draw::aims_of;
+use crate::kinds::kinds_of;
 use crate::numbers::{refusals_of, Refusal, ALL_JUDGED};
 use std::collections::BTreeMap;
 

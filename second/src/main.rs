@@ -15,6 +15,7 @@ mod counts;
 mod covering;
 mod draw;
 mod examples;
+mod kinds;
 mod labels;
 #[cfg(test)]
 mod laying_tests;
