@@ -2,16 +2,19 @@
 
 use crate::building::build;
 use crate::covering::covers;
+use crate::kinds::{BUILT_BY_STARRED, COVERS_BY_STARRED, SETTLED_BY_STARRED};
 use crate::kinds::{CLIPPED_ONLY_BELOW, CUTS_AMONG_SEVERAL, LAST_ALONE};
+use crate::kinds::{SOUND_BY_STARRED, YES_BY_STARRED};
 use crate::labels::label;
 use crate::line_answers;
 use crate::lines::not_a_line;
 use crate::maps::{covers_checked, satisfies_checked};
-use crate::merging::{merge, Rule};
+use crate::merging::{merge, Merge, Rule};
 use crate::numbers::{Judged, Refusal, ASKED, NOT_A_LINE, ROOM, UNFAIR};
 use crate::question::{hex, next_question, Next, Question};
 use crate::reading;
 use crate::routing::{fair, plain_route, table_route, wanted, Found};
+use crate::starred::{covering_hangs, fairness_hangs, merge_hangs, settling_hangs};
 use crate::trees::{written, written_table, Document, Entry, Pattern, Sheet};
 use std::io::{self, Write};
 
@@ -162,8 +165,12 @@ fn document_check(question: &Question) -> Result<Values, Refusal> {
 
 fn table_check(question: &Question) -> Result<Values, Refusal> {
     let sheet = read_sheet(question)?;
-    read_table(question, &sheet)?;
-    Ok(Values(String::new(), "sound"))
+    let entries = read_table(question, &sheet)?;
+    let kind = match fairness_hangs(&sheet, &entries) {
+        true => SOUND_BY_STARRED,
+        false => "sound",
+    };
+    Ok(Values(String::new(), kind))
 }
 
 fn does_match(question: &Question) -> Result<Values, Refusal> {
@@ -177,7 +184,12 @@ fn does_cover(question: &Question) -> Result<Values, Refusal> {
     let sheet = read_sheet(question)?;
     let first = subscription(&sheet, question.numbers[0])?;
     let second = subscription(&sheet, question.numbers[1])?;
-    Ok(yes_or_no(covers_checked(first, second)))
+    let yes = covers_checked(first, second);
+    let Values(value, kind) = yes_or_no(yes);
+    if yes && covering_hangs(first, second) {
+        return Ok(Values(value, YES_BY_STARRED));
+    }
+    Ok(Values(value, kind))
 }
 
 fn merge_of(question: &Question) -> Result<Values, Refusal> {
@@ -189,16 +201,22 @@ fn merge_of(question: &Question) -> Result<Values, Refusal> {
     assert!(covers(&merged.pattern, first) && covers(&merged.pattern, second));
     let bytes = written(&merged.pattern);
     check_room(&bytes, question.room)?;
-    let kind = match merged.rule {
+    let lent = lent_bytes(&bytes, question.room);
+    let clipped = merged.clipped.anywhere() as u8;
+    let kind = kind_of_merge(&merged, merge_hangs(first, second, &merged));
+    Ok(Values(format!(" {} {clipped} {lent}", bytes.len()), kind))
+}
+
+fn kind_of_merge(merged: &Merge, hangs: bool) -> &'static str {
+    match merged.rule {
+        Rule::FirstCovers | Rule::SecondCovers if hangs => COVERS_BY_STARRED,
         Rule::FirstCovers => "i covers j",
         Rule::SecondCovers => "j covers i",
         Rule::Built if merged.clipped.at_roots => "clipped",
         Rule::Built if merged.clipped.below => CLIPPED_ONLY_BELOW,
+        Rule::Built if hangs => BUILT_BY_STARRED,
         Rule::Built => "built",
-    };
-    let lent = lent_bytes(&bytes, question.room);
-    let clipped = merged.clipped.anywhere() as u8;
-    Ok(Values(format!(" {} {clipped} {lent}", bytes.len()), kind))
+    }
 }
 
 fn table_for(question: &Question) -> Result<Values, Refusal> {
@@ -209,6 +227,7 @@ fn table_for(question: &Question) -> Result<Values, Refusal> {
     let bytes = written_table(&built.entries);
     check_room(&bytes, question.room)?;
     let kind = match (built.rounds, built.cuts) {
+        _ if settling_hangs(&sheet) => SETTLED_BY_STARRED,
         (0, _) => "no rounds",
         (_, 0) => "rounds of merges",
         _ if built.cuts_among_several > 0 => CUTS_AMONG_SEVERAL,

@@ -1,6 +1,6 @@
 //! The table built for a step limit.
 
-use crate::covering::covers;
+use crate::covering::Laying;
 use crate::merging::merge;
 use crate::trees::{listed, planted, size, Entry, Sheet};
 
@@ -26,7 +26,7 @@ pub fn build(sheet: &Sheet, limit: u16) -> Built {
             built.cuts_among_several += (built.entries.len() > 1) as usize;
             cut_largest(&mut built.entries);
         }
-        settle(&mut built.entries);
+        settle(Laying::Paper, &mut built.entries);
     }
     built
 }
@@ -41,8 +41,12 @@ pub fn one_for_each(sheet: &Sheet) -> Vec<Entry> {
 
 /// The entries before the first round.
 pub fn settled(sheet: &Sheet) -> Vec<Entry> {
+    settled_by(Laying::Paper, sheet)
+}
+
+pub fn settled_by(laying: Laying, sheet: &Sheet) -> Vec<Entry> {
     let mut entries = one_for_each(sheet);
-    settle(&mut entries);
+    settle(laying, &mut entries);
     entries
 }
 
@@ -50,17 +54,17 @@ pub fn steps_together(entries: &[Entry]) -> usize {
     entries.iter().map(|entry| size(&entry.pattern)).sum()
 }
 
-fn settle(entries: &mut Vec<Entry>) {
-    while let Some((i, j)) = first_covering_pair(entries) {
+fn settle(laying: Laying, entries: &mut Vec<Entry>) {
+    while let Some((i, j)) = first_covering_pair(laying, entries) {
         entries[i].members |= entries[j].members;
         entries.remove(j);
     }
 }
 
-fn first_covering_pair(entries: &[Entry]) -> Option<(usize, usize)> {
+fn first_covering_pair(laying: Laying, entries: &[Entry]) -> Option<(usize, usize)> {
     for i in 0..entries.len() {
         for j in 0..entries.len() {
-            if i != j && covers(&entries[i].pattern, &entries[j].pattern) {
+            if i != j && laying.covers(&entries[i].pattern, &entries[j].pattern) {
                 return Some((i, j));
             }
         }

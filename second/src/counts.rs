@@ -71,7 +71,7 @@ impl Counts {
         for &letter in &self.letters {
             for kind in kinds_of(letter) {
                 let count = self.count(letter, Outcome::Done(kind));
-                println!("  {} {kind:24}{count:6}", letter as char);
+                println!("  {} {kind:26}{count:6}", letter as char);
             }
         }
     }

@@ -2,29 +2,47 @@
 
 use crate::trees::Branch;
 
+/// Where near steps may lie. Answers are by the paper alone. The other laying is an easy misreading, and only tells
+/// which answers hang on a starred leaf.
+#[derive(Clone, Copy, PartialEq, Eq, Debug)]
+pub enum Laying {
+    Paper,
+    NearOnNearAlone,
+}
+
 pub fn covers(a: &[Branch], b: &[Branch]) -> bool {
-    a.iter().all(|step| finds_place(step, b))
+    Laying::Paper.covers(a, b)
 }
 
-/// Can the step be laid among these children of the place of its parent?
-/// A near step only on a near child, but a starred leaf on any child; a far one on any child or inside it.
-pub fn finds_place(step: &Branch, children: &[Branch]) -> bool {
-    if step.far {
-        children
-            .iter()
-            .any(|child| fits(step, child) || finds_place(step, &child.below))
-    } else {
-        let may_lie = |child: &Branch| !child.far || is_starred_leaf(step);
-        children
-            .iter()
-            .any(|child| may_lie(child) && fits(step, child))
+impl Laying {
+    pub fn covers(self, a: &[Branch], b: &[Branch]) -> bool {
+        a.iter().all(|step| self.finds_place(step, b))
     }
-}
 
-/// Label and children of the step fit at this place; the two axes don't matter.
-pub fn fits(step: &Branch, place: &Branch) -> bool {
-    let same = step.label == 0 || step.label == place.label;
-    same && covers(&step.below, &place.below)
+    /// Can the step be laid among these children of the place of its parent?
+    /// A near step only on a child, as `near_may_lie` says; a far one on any child or inside it.
+    pub fn finds_place(self, step: &Branch, children: &[Branch]) -> bool {
+        if step.far {
+            children
+                .iter()
+                .any(|child| self.fits(step, child) || self.finds_place(step, &child.below))
+        } else {
+            children
+                .iter()
+                .any(|child| self.near_may_lie(step, child) && self.fits(step, child))
+        }
+    }
+
+    /// A near step lies on a near child, and a starred leaf on any child, near or far.
+    fn near_may_lie(self, step: &Branch, child: &Branch) -> bool {
+        !child.far || self == Laying::Paper && is_starred_leaf(step)
+    }
+
+    /// Label and children of the step fit at this place; the two axes don't matter.
+    pub fn fits(self, step: &Branch, place: &Branch) -> bool {
+        let same = step.label == 0 || step.label == place.label;
+        same && self.covers(&step.below, &place.below)
+    }
 }
 
 /// A near step labelled any, without child steps.

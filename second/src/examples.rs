@@ -1,5 +1,5 @@
-//! The rose bench examples of document 01 and the readings that docs/DECISIONS.md takes, asked as questions. Those about
-//! starred leaves stand in `starred_examples`, those about lines in `line_examples`.
+//! The rose bench examples of document 01 and the readings that docs/DECISIONS.md takes, asked as questions. Those
+//! about starred leaves stand in `starred_examples`, those about lines in `line_examples`.
 
 use crate::answers::answer;
 use crate::line_examples;

@@ -11,18 +11,31 @@ pub const CUTS_AMONG_SEVERAL: &str = "cuts among several";
 /// A yes that comes only from the last subscription that a sheet can have.
 pub const LAST_ALONE: &str = "yes, by number 63 alone";
 
+/// What would be otherwise if near steps lay on near children alone: a covering; a merge that is one of the two
+/// patterns, and one that is built; the entries after the first settle; a table that is fair.
+pub const YES_BY_STARRED: &str = "yes, by a starred leaf";
+pub const COVERS_BY_STARRED: &str = "covers, by a starred leaf";
+pub const BUILT_BY_STARRED: &str = "built, by a starred leaf";
+pub const SETTLED_BY_STARRED: &str = "settled, by a starred leaf";
+pub const SOUND_BY_STARRED: &str = "sound, by a starred leaf";
+
 pub fn kinds_of(letter: u8) -> &'static [&'static str] {
     match letter {
-        b'S' | b'D' | b'T' => &["sound"],
-        b'M' | b'C' => &["no", "yes"],
+        b'S' | b'D' => &["sound"],
+        b'T' => &["sound", SOUND_BY_STARRED],
+        b'M' => &["no", "yes"],
+        b'C' => &["no", "yes", YES_BY_STARRED],
         b'G' => &[
             "i covers j",
             "j covers i",
+            COVERS_BY_STARRED,
             "built",
+            BUILT_BY_STARRED,
             "clipped",
             CLIPPED_ONLY_BELOW,
         ],
         b'B' => &[
+            SETTLED_BY_STARRED,
             "no rounds",
             "rounds of merges",
             "cuts of a single entry",

@@ -35,6 +35,7 @@ mod random;
 mod reading;
 mod routing;
 mod satisfying;
+mod starred;
 mod starred_examples;
 mod trees;
 

@@ -1,7 +1,7 @@
 //! The merge of two patterns, by the words of document 01 and with no notes kept:
 //! the body of a pair is worked out again each time that the pair is reached.
 
-use crate::covering::{covers, finds_place, fits};
+use crate::covering::Laying;
 use crate::trees::{size, strictly_below, Branch, Pattern};
 
 const MOST_STEPS: usize = 16;
@@ -34,70 +34,83 @@ impl Clipped {
 }
 
 pub fn merge(p: &[Branch], q: &[Branch]) -> Merge {
-    let mut clipped = Clipped::default();
-    let (pattern, rule) = if covers(p, q) {
+    merge_by(Laying::Paper, p, q)
+}
+
+pub fn merge_by(laying: Laying, p: &[Branch], q: &[Branch]) -> Merge {
+    let clipped = Clipped::default();
+    let mut work = Work { laying, clipped };
+    let (pattern, rule) = if laying.covers(p, q) {
         (p.to_vec(), Rule::FirstCovers)
-    } else if covers(q, p) {
+    } else if laying.covers(q, p) {
         (q.to_vec(), Rule::SecondCovers)
     } else {
-        (built_at(p, q, 0, &mut clipped), Rule::Built)
+        (work.built_at(p, q, 0), Rule::Built)
     };
     Merge {
         pattern,
-        clipped,
+        clipped: work.clipped,
         rule,
     }
 }
 
-/// What is built at a pair, given what stands below each of the two.
-/// `own` is the pair's own step: 1, or 0 at the roots.
-fn built_at(v: &[Branch], w: &[Branch], own: usize, clipped: &mut Clipped) -> Vec<Branch> {
-    let mut kept = Vec::new();
-    for (lower_v, is_child_of_v) in strictly_below(v) {
-        for (lower_w, is_child_of_w) in strictly_below(w) {
-            let children = is_child_of_v && is_child_of_w;
-            let near = children && !lower_v.far && !lower_w.far;
-            let mut candidate = body(lower_v, lower_w, clipped);
-            candidate.far = !near;
-            consider(candidate, &mut kept, own, clipped);
+/// A merge at work: how it lays, and where it has left candidates out.
+struct Work {
+    laying: Laying,
+    clipped: Clipped,
+}
+
+impl Work {
+    /// What is built at a pair, given what stands below each of the two.
+    /// `own` is the pair's own step: 1, or 0 at the roots.
+    fn built_at(&mut self, v: &[Branch], w: &[Branch], own: usize) -> Vec<Branch> {
+        let mut kept = Vec::new();
+        for (lower_v, is_child_of_v) in strictly_below(v) {
+            for (lower_w, is_child_of_w) in strictly_below(w) {
+                let children = is_child_of_v && is_child_of_w;
+                let near = children && !lower_v.far && !lower_w.far;
+                let mut candidate = self.body(lower_v, lower_w);
+                candidate.far = !near;
+                self.consider(candidate, &mut kept, own);
+            }
+        }
+        kept
+    }
+
+    /// The body of a pair: label and children. The axis is set by who asked.
+    fn body(&mut self, v: &Branch, w: &Branch) -> Branch {
+        if self.laying.fits(v, w) {
+            return v.clone();
+        }
+        if self.laying.fits(w, v) {
+            return w.clone();
+        }
+        Branch {
+            far: true,
+            label: if v.label == w.label { v.label } else { 0 },
+            below: self.built_at(&v.below, &w.below, 1),
         }
     }
-    kept
-}
 
-/// The body of a pair: label and children. The axis is set by who asked.
-fn body(v: &Branch, w: &Branch, clipped: &mut Clipped) -> Branch {
-    if fits(v, w) {
-        return v.clone();
+    /// Skips the candidate, puts it last in place of those that it makes needless, or leaves it out.
+    fn consider(&mut self, candidate: Branch, kept: &mut Vec<Branch>, own: usize) {
+        if kept.iter().any(|one| self.can_be_laid_on(&candidate, one)) {
+            return;
+        }
+        let mut after: Vec<Branch> = kept.clone();
+        after.retain(|one| !self.can_be_laid_on(one, &candidate));
+        after.push(candidate);
+        if own + size(&after) > MOST_STEPS {
+            // Left out, and then nothing is dropped either.
+            self.clipped.at_roots |= own == 0;
+            self.clipped.below |= own == 1;
+            return;
+        }
+        *kept = after;
     }
-    if fits(w, v) {
-        return w.clone();
-    }
-    Branch {
-        far: true,
-        label: if v.label == w.label { v.label } else { 0 },
-        below: built_at(&v.below, &w.below, 1, clipped),
-    }
-}
 
-/// Skips the candidate, puts it last in place of those that it makes needless, or leaves it out.
-fn consider(candidate: Branch, kept: &mut Vec<Branch>, own: usize, clipped: &mut Clipped) {
-    if kept.iter().any(|one| can_be_laid_on(&candidate, one)) {
-        return;
+    /// Below the same parent, can `upper` be laid on `lower` or (if far) inside it?
+    fn can_be_laid_on(&self, upper: &Branch, lower: &Branch) -> bool {
+        self.laying.finds_place(upper, std::slice::from_ref(lower))
     }
-    let mut after: Vec<Branch> = kept.clone();
-    after.retain(|one| !can_be_laid_on(one, &candidate));
-    after.push(candidate);
-    if own + size(&after) > MOST_STEPS {
-        // Left out, and then nothing is dropped either.
-        clipped.at_roots |= own == 0;
-        clipped.below |= own == 1;
-        return;
-    }
-    *kept = after;
-}
-
-/// Below the same parent, can `upper` be laid on `lower` or (if far) inside it?
-fn can_be_laid_on(upper: &Branch, lower: &Branch) -> bool {
-    finds_place(upper, std::slice::from_ref(lower))
 }

@@ -2,7 +2,7 @@
 //! which would take it too long can be left aside. No answer depends on it.
 
 use crate::building::{settled, steps_together};
-use crate::covering::fits;
+use crate::covering::Laying;
 use crate::question::Question;
 use crate::reading;
 use crate::trees::{size, strictly_below, Branch, Document, Entry, Pattern, Sheet};
@@ -77,18 +77,22 @@ fn of_merge(question: &Question, sheet: &Sheet) -> f64 {
             .get(usize::try_from(question.numbers[i]).ok()?)
     };
     match (pattern(0), pattern(1)) {
-        (Some(p), Some(q)) => pairs_reached(p, q),
+        (Some(p), Some(q)) => {
+            // It is worked out both ways, to see if it hangs on a starred leaf.
+            let ways = [Laying::Paper, Laying::NearOnNearAlone];
+            ways.iter().map(|&laying| pairs_reached(laying, p, q)).sum()
+        }
         _ => 0.0,
     }
 }
 
 /// How often the merge of the two, by plain recursion, works out the body of a pair.
-fn pairs_reached(p: &[Branch], q: &[Branch]) -> f64 {
+fn pairs_reached(laying: Laying, p: &[Branch], q: &[Branch]) -> f64 {
     let (all_v, all_w) = (strictly_below(p), strictly_below(q));
     let mut pairs = vec![vec![1.0; all_w.len()]; all_v.len()];
     for (i, (v, _)) in all_v.iter().enumerate().rev() {
         for (j, (w, _)) in all_w.iter().enumerate().rev() {
-            if fits(v, w) || fits(w, v) {
+            if laying.fits(v, w) || laying.fits(w, v) {
                 continue;
             }
             // In preorder, what stands below a step follows it at once.
@@ -116,7 +120,7 @@ pub fn of_build(sheet: &Sheet, limit: u16) -> f64 {
     let mut effort = 0.0;
     for (i, first) in entries.iter().enumerate() {
         for second in &entries[i + 1..] {
-            effort += pairs_reached(&first.pattern, &second.pattern);
+            effort += pairs_reached(Laying::Paper, &first.pattern, &second.pattern);
         }
     }
     0.03 * effort * rounds as f64
