@@ -76,7 +76,12 @@ fn has_near_root(steps: &[Step]) -> bool {
     steps.iter().any(|step| step.parent == 0 && !step.far)
 }
 
-/// A pattern that the given one often is covered by: steps made far or any, or cut off.
+/// Has the step at this place no child steps?
+fn is_leaf(steps: &[Step], place: usize) -> bool {
+    steps.iter().all(|step| step.parent != place + 1)
+}
+
+/// A pattern that the given one often is covered by: steps made far or any, leaves starred, or steps cut off.
 pub fn wider(random: &mut Random, steps: &[Step]) -> Vec<Step> {
     let mut wide = steps.to_vec();
     for _ in 0..random.between(1, 3) {
@@ -84,16 +89,37 @@ pub fn wider(random: &mut Random, steps: &[Step]) -> Vec<Step> {
             break;
         }
         let place = random.below(wide.len());
-        match random.below(3) {
+        match random.below(4) {
             0 => wide[place].far = true,
             1 if wide.len() > 1 || random.one_in(10) => drop(wide.pop()),
+            2 if is_leaf(&wide, place) => star(&mut wide, place),
             _ => wide[place].label = 0,
         }
     }
     wide
 }
 
-/// A pattern that often is covered by the given one: steps added, made near or labelled.
+/// A pattern that covers the given one by its starred leaves: some leaves, or all, are made such.
+pub fn starred(random: &mut Random, steps: &[Step]) -> Vec<Step> {
+    let mut starred = steps.to_vec();
+    let ones = random.between(1, 3);
+    for place in 0..steps.len() {
+        if is_leaf(steps, place) && random.one_in(ones) {
+            star(&mut starred, place);
+        }
+    }
+    starred
+}
+
+/// Labels the leaf any, and makes it near if the root then has no second near step.
+fn star(steps: &mut [Step], leaf: usize) {
+    steps[leaf].label = 0;
+    if steps[leaf].parent != 0 || !has_near_root(steps) {
+        steps[leaf].far = false;
+    }
+}
+
+/// A pattern that often is covered by the given one: steps added, made near or labelled, starred leaves made far.
 pub fn narrower(random: &mut Random, steps: &[Step], label_count: usize) -> Vec<Step> {
     let mut narrow = steps.to_vec();
     for _ in 0..random.between(1, 3) {
@@ -107,6 +133,7 @@ pub fn narrower(random: &mut Random, steps: &[Step], label_count: usize) -> Vec<
         let place = random.below(narrow.len());
         if narrow[place].label == 0 {
             narrow[place].label = label;
+            narrow[place].far |= is_leaf(&narrow, place) && random.one_in(2);
         } else if narrow[place].parent != 0 || !has_near_root(&narrow) {
             narrow[place].far = false;
         }

@@ -2,7 +2,7 @@
 
 use super::effort::{of_plain_route, MOST_IN_MAKING};
 use super::label_names::new_labels;
-use super::patterns::{narrower, pattern, wider, Style};
+use super::patterns::{narrower, pattern, starred, wider, Style};
 use crate::random::Random;
 use crate::satisfying::satisfies;
 use crate::trees::{planted, Document, Sheet, Step};
@@ -132,9 +132,15 @@ fn style(random: &mut Random, size: Size, label_count: usize) -> Style {
 
 /// A pattern near to an earlier one: often one of the two covers the other.
 fn relative(random: &mut Random, earlier: &[Step], label_count: usize) -> Vec<Step> {
-    match random.below(8) {
+    match random.below(10) {
         0 => earlier.to_vec(),
         1 | 2 => wider(random, earlier),
+        3 | 4 => starred(random, earlier),
+        5 => {
+            // Often neither covers the other, but a branch of one lies at a branch of the other.
+            let leaves = starred(random, earlier);
+            narrower(random, &leaves, label_count)
+        }
         _ => narrower(random, earlier, label_count),
     }
 }
