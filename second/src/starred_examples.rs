@@ -82,7 +82,8 @@ fn merged(list: &mut Vec<Example>) {
             "no leaf, so it stays",
             ["/b/a", "/a/b/c", "[/*/*][//b/*][//a]"],
         ),
-        ("a body is laid at another", ["/c/a/*", "/b/a//b", "/*/a/*"]),
+        ("v' is laid at w'", ["/c/a/*", "/b/a//b", "/*/a/*"]),
+        ("w' is laid at v'", ["/b/a//b", "/c/a/*", "/*/a/*"]),
         ("axes stay as they are", ["/a", "//b", "//*"]),
         (
             "room is made",
