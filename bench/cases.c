@@ -49,8 +49,8 @@ void add_question(Case *to, Question question)
 
 // ---- routes
 
-// A random sheet and its table for half of the steps. Some sheets get a table of next to nothing, which leaves little to
-// judge and spares no try; they are drawn again, until the table has a quarter. What is drawn again shifts no later input.
+// A random sheet and its table for half of the steps. Some sheets get a table of next to nothing, which leaves little
+// to judge and spares no try; they are drawn again, until the table has a quarter. That shifts no later input.
 static void draw_with_table(Question *to, unsigned subscriptions, Shape shape)
 {
     unsigned half = subscriptions * shape.steps / 2;

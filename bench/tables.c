@@ -6,7 +6,7 @@ enum { MOST_TABLES = 64 };
 
 static Question builds[MOST_TABLES];
 
-Case tables = {"the tables that are routed by", 0, builds};
+Case tables = {"the tables that are built for routes", 0, builds};
 
 Part built_table(Part sheet, uint16_t limit)
 {

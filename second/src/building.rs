@@ -26,7 +26,7 @@ pub fn build(sheet: &Sheet, limit: u16) -> Built {
             built.cuts_among_several += (built.entries.len() > 1) as usize;
             cut_largest(&mut built.entries);
         }
-        settle(Laying::Paper, &mut built.entries);
+        settle(Laying::InForce, &mut built.entries);
     }
     built
 }
@@ -41,9 +41,10 @@ pub fn one_for_each(sheet: &Sheet) -> Vec<Entry> {
 
 /// The entries before the first round.
 pub fn settled(sheet: &Sheet) -> Vec<Entry> {
-    settled_by(Laying::Paper, sheet)
+    settled_by(Laying::InForce, sheet)
 }
 
+/// The same by either rule.
 pub fn settled_by(laying: Laying, sheet: &Sheet) -> Vec<Entry> {
     let mut entries = one_for_each(sheet);
     settle(laying, &mut entries);

@@ -2,16 +2,16 @@
 
 use crate::trees::Branch;
 
-/// Where near steps may lie. Answers are by the paper alone. The other laying is an easy misreading, and only tells
-/// which answers hang on a starred leaf.
+/// Where near steps may lie. Answers are by the rule in force alone. The other, without starred leaves, only tells
+/// which answers hang on one.
 #[derive(Clone, Copy, PartialEq, Eq, Debug)]
 pub enum Laying {
-    Paper,
+    InForce,
     NearOnNearAlone,
 }
 
 pub fn covers(a: &[Branch], b: &[Branch]) -> bool {
-    Laying::Paper.covers(a, b)
+    Laying::InForce.covers(a, b)
 }
 
 impl Laying {
@@ -35,7 +35,7 @@ impl Laying {
 
     /// A near step lies on a near child, and a starred leaf on any child, near or far.
     fn near_may_lie(self, step: &Branch, child: &Branch) -> bool {
-        !child.far || self == Laying::Paper && is_starred_leaf(step)
+        !child.far || self == Laying::InForce && is_starred_leaf(step)
     }
 
     /// Label and children of the step fit at this place; the two axes don't matter.
@@ -45,7 +45,7 @@ impl Laying {
     }
 }
 
-/// A near step labelled any, without child steps.
+/// Labelled any, without child steps.
 fn is_starred_leaf(step: &Branch) -> bool {
-    !step.far && step.label == 0 && step.below.is_empty()
+    step.label == 0 && step.below.is_empty()
 }

@@ -34,9 +34,10 @@ impl Clipped {
 }
 
 pub fn merge(p: &[Branch], q: &[Branch]) -> Merge {
-    merge_by(Laying::Paper, p, q)
+    merge_by(Laying::InForce, p, q)
 }
 
+/// The merge by either rule.
 pub fn merge_by(laying: Laying, p: &[Branch], q: &[Branch]) -> Merge {
     let clipped = Clipped::default();
     let mut work = Work { laying, clipped };

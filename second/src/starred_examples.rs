@@ -1,4 +1,4 @@
-//! A starred leaf (a near step labelled any, without child steps) may lie on a far child: what hangs on it, and what
+//! A near starred leaf (labelled any, without child steps) may lie on a far child: what hangs on it, and what
 //! doesn't, asked as questions.
 
 use crate::examples::{add, add_merge, question, sheet_of, table_of, Example, ABC};

@@ -79,7 +79,7 @@ fn of_merge(question: &Question, sheet: &Sheet) -> f64 {
     match (pattern(0), pattern(1)) {
         (Some(p), Some(q)) => {
             // It is worked out both ways, to see if it hangs on a starred leaf.
-            let ways = [Laying::Paper, Laying::NearOnNearAlone];
+            let ways = [Laying::InForce, Laying::NearOnNearAlone];
             ways.iter().map(|&laying| pairs_reached(laying, p, q)).sum()
         }
         _ => 0.0,
@@ -120,7 +120,7 @@ pub fn of_build(sheet: &Sheet, limit: u16) -> f64 {
     let mut effort = 0.0;
     for (i, first) in entries.iter().enumerate() {
         for second in &entries[i + 1..] {
-            effort += pairs_reached(Laying::Paper, &first.pattern, &second.pattern);
+            effort += pairs_reached(Laying::InForce, &first.pattern, &second.pattern);
         }
     }
     0.03 * effort * rounds as f64
