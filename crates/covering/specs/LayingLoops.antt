@@ -1,18 +1,21 @@
 -- One law for each way through the two loops: what is left of the steps from here on answers what all of them answer.
 use Prim.Native.Nat.{ℕ, _+_, _-_, _≤_, _<_}
 use mathlib.Core.Path.{_≡_, refl, sym, _∙_}
-use mathlib.Core.Bool.{Bool, true, false, _&&_, _||_, and-assoc}
+use mathlib.Core.Logic.{_⊎_, inl, inr}
+use mathlib.Core.Bool.{Bool, true, false, not, _&&_, _||_, and-assoc}
 use mathlib.Core.List.{List}
 use native.Mathlib.Omega.{arith}
 use native.Mathlib.Numerals.{add-one}
-use Rattle.meaning.specs.Forest.{axisOf}
+use lib.Dec.{eqb}
+use borrow.Author.Tests.{ne-eqb}
+use Rattle.meaning.specs.Forest.{axisOf, isNone}
 use Rattle.meaning.specs.Satisfying.{anyOrSame}
 use Rattle.meaning.specs.Covering.{stepAt, fitsAt, lays}
 use Rattle.meaning.specs.declared.Step.{Step}
 use Rattle.laws.specs.Children.{childrenFrom, childrenOf}
 use Rattle.laws.specs.Laying.{leafWith}
 use Rattle.shapes.specs.Shapes.{stepsIn, WellFormed}
-use Rattle.shapes.specs.Steps.{stepIn, step-at, step-number, child-here, child-not, children-end}
+use Rattle.shapes.specs.Steps.{stepIn, step-at, step-number, child-here, child-not, children-end, last-is-leaf, next-tells}
 use Rattle.shapes.specs.declared.Pattern.{Pattern}
 use Rattle.covering.specs.OverBlock.{overFrom, over-starts, over-step, over-ends, over-done}
 use Rattle.covering.specs.PlaceSearch.{triesStep, place-found}
@@ -74,6 +77,12 @@ pub record Fitting (a : List Step) (k : ℕ) (s : Step) (starred : Bool) (p : Pa
   pub from : w ≤ u
   pub upto : u ≤ p .count
   pub rest : restFits a k s starred (stepsIn p) w u ≡ someFits a k (stepsIn p) w
+
+-- whether step k has child steps is told by the parent of the step after it, or 0 where there is none
+pub next-parent-tells : (p : Pattern) → WellFormed p → (k : ℕ) → 1 ≤ k → (next : ℕ)
+    → ((k < p .count) × (next ≡ stepIn p k .parent)) ⊎ ((p .count ≤ k) × (next ≡ 0)) → not (eqb next k) ≡ isNone (childrenOf (stepsIn p) k)
+next-parent-tells p sound k o next (inl (h, e)) = rw e (next-tells p sound k h)
+next-parent-tells p sound k o next (inr (h, e)) = rw (e, ne-eqb 0 k (λ q. omega arith)) (last-is-leaf p sound k h)
 
 -- it starts right after w
 pub search-starts : (a : List Step) (k : ℕ) (s : Step) (starred : Bool) (p : Pattern) (w : ℕ) → WellFormed p → w ≤ p .count

@@ -67,7 +67,13 @@ fn some_fits(a: Pattern, k: usize, b: Pattern, w: usize, notes: &mut [u8; PAIRS]
     ensures { λ r. ⌜ (r ≡ someFits (stepsIn a) k (stepsIn b) w) × Noted a b (now (notes .exit)) ⌝ }
 {
     let s = a.steps[k - 1];
-    let starred = starred_leaf(a, k);
+    // What the next step hangs on, if there is one: on k itself only if k has child steps.
+    let mut next = 0;
+    if k < a.count {
+        let after = a.steps[k];
+        next = after.parent as usize;
+    }
+    let starred = starred_leaf(s, k, next);
     let mut u = w;
     while u < b.count {
         let t = b.steps[u];

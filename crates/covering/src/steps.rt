@@ -1,14 +1,11 @@
 // Where a step of one pattern may lie on another's, by itself: its child steps aside.
 use meaning::Step;
-use shapes::Pattern;
-ghost use Prim.Native.Nat.{_≤_};
 ghost use mathlib.Core.Path.{_≡_};
-ghost use Rattle.meaning.specs.Forest.{axisOf, isNone};
+ghost use mathlib.Core.Bool.{not};
+ghost use lib.Dec.{eqb};
+ghost use Rattle.meaning.specs.Forest.{axisOf};
 ghost use Rattle.meaning.specs.Satisfying.{anyOrSame};
-ghost use Rattle.meaning.specs.Covering.{stepAt, mayLie};
-ghost use Rattle.laws.specs.Children.{childrenOf};
-ghost use Rattle.laws.specs.Laying.{leafWith};
-ghost use Rattle.shapes.specs.Shapes.{stepsIn, WellFormed};
+ghost use Rattle.meaning.specs.Covering.{starredLeaf, mayLie};
 ghost use Rattle.covering.specs.Questions.{mayLieBelow};
 
 // The label is any, or the same.
@@ -18,25 +15,11 @@ pub fn any_or_same(l: u8, m: u8) -> bool
     l == 0 || l == m
 }
 
-// Step k has no child steps: the next step doesn't hang on it.
-fn childless(p: Pattern, k: usize) -> bool
-    requires { ⌜ WellFormed p × (k ≤ p .count) ⌝ }
-    ensures { λ r. ⌜ r ≡ isNone (childrenOf (stepsIn p) k) ⌝ }
+// Step s, numbered k, is labelled any and has no child steps: the next step hangs on another.
+pub fn starred_leaf(s: Step, k: usize, next: usize) -> bool
+    ensures { λ r. ⌜ r ≡ starredLeaf (s .label) (not (eqb next k)) ⌝ }
 {
-    if k == p.count {
-        return true;
-    }
-    let next = p.steps[k];
-    next.parent as usize != k
-}
-
-// Step k is labelled any and has no child steps.
-pub fn starred_leaf(p: Pattern, k: usize) -> bool
-    requires { ⌜ WellFormed p × (1 ≤ k) × (k ≤ p .count) ⌝ }
-    ensures { λ r. ⌜ r ≡ leafWith (stepAt (stepsIn p) k .label) (childrenOf (stepsIn p) k) ⌝ }
-{
-    let s = p.steps[k - 1];
-    s.label == 0 && childless(p, k)
+    s.label == 0 && next != k
 }
 
 // Step s, a starred leaf or not, may lie on step t: a near step on a far one only if it is a starred leaf; a step

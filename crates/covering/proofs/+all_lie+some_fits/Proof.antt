@@ -1,5 +1,6 @@
 -- The proof of the cycle of calls {all_lie, some_fits}. The measures fall with the steps of A that are left.
 use mathlib.Core.Path.{refl}
+use mathlib.Core.Logic.{inl, inr, ⊎-elim}
 use Prim.Native.Nat.{ℕ, _+_, _*_, _-_, _<_}
 use native.Mathlib.Omega.{arith}
 use borrow.Author.Needs.{needs}
@@ -10,7 +11,7 @@ use Rattle.shapes.specs.Shapes.{stepsIn}
 use Rattle.shapes.specs.Steps.{stepIn, step-number}
 use Rattle.covering.specs.PairNotes.{Noted, PairOfSteps, known-lies, known-doesn't, children-decide}
 use Rattle.covering.specs.LayingLoops.{LayingChildren, laying-starts, child-lies, child-doesn't, no-child, all-lay}
-use Rattle.covering.specs.LayingLoops.{Fitting, search-starts, block-ends, place-fits, place-doesn't, steps-done}
+use Rattle.covering.specs.LayingLoops.{Fitting, next-parent-tells, search-starts, block-ends, place-fits, place-doesn't, steps-done}
 use Rattle.covering.proofs.all_lie.Reads as all-lie
 use Rattle.covering.proofs.all_lie.Kinds as all-lie-kinds
 use Rattle.covering.proofs.+all_lie+some_fits.Lts-all_lie as all-lie-lts
@@ -92,10 +93,10 @@ all-lie-returns-2 t c =
 
 -- ---- some_fits: some place from place u on fits exactly if some does
 abbrev some-fits-Inv-loop : some-fits-lts.InvT-loop
-some-fits-Inv-loop k w notes₀ a b s starred u₀ notes u = Noted a b notes × Fitting (stepsIn a) k s starred b w u
+some-fits-Inv-loop k w notes₀ a b s next starred u₀ notes u = Noted a b notes × Fitting (stepsIn a) k s starred b w u
 
 abbrev some-fits-μ-loop : some-fits-lts.MeasureT-loop
-some-fits-μ-loop k w notes₀ a b s starred u₀ notes u = b .count - u
+some-fits-μ-loop k w notes₀ a b s next starred u₀ notes u = b .count - u
 
 abbrev some-fits-calls : ℕ → some-fits-lts.Claims
 some-fits-calls t = (
@@ -119,15 +120,20 @@ SomeFits need = (t : ℕ) → need (some-fits-calls t) (some-fits-at t) some-fit
 some-fits-loop-holds : SomeFits some-fits-lts.Need-loop-holds
 unfolding stepIn
 some-fits-loop-holds t c =
-    let s = c .before .before .args in
-    let h = c .before .before .pre .1 in
-    (h .0, search-starts _ _ _ _ _ _ (h .0 .second) (h .3) (step-number (s .t1) (h .0 .first) (s .k) (h .1) (h .2)) (c .starred-leaf .ensures))
+    let joined = c .before in
+    let start = joined .before .before in
+    let a = start .args .t1 in
+    let h = start .pre .1 in
+    let same = step-number a (h .0 .first) (start .args .k) (h .1) (h .2) in
+    let told = next-parent-tells a (h .0 .first) (start .args .k) (h .1) (joined .if1 .next)
+    (⊎-elim (λ u. inl (u .0 .taken, u .3)) (λ u. inr (u .0 .left, u .1)) (joined .if1 .came)) in
+    (h .0, search-starts _ _ _ _ _ _ (h .0 .second) (h .3) same (rw (← told, ← same) (c .starred-leaf .ensures)))
 
 some-fits-returns : SomeFits some-fits-lts.Need-returns
 unfolding stepIn
 some-fits-returns t c =
     let i = c .before .before .before .before .loop .inv in
-    (block-ends (i .1) (omega arith) (c .if1 .taken), i .0)
+    (block-ends (i .1) (omega arith) (c .if2 .taken), i .0)
 
 some-fits-returns-2 : SomeFits some-fits-lts.Need-returns-2
 unfolding stepIn
@@ -135,11 +141,11 @@ some-fits-returns-2 t c =
     let known = c .before in
     let asked = known .before .before in
     let l = asked .before .before .before .before .before in
-    let s = l .before .before .before .args in
+    let s = l .before .before .before .before .args in
     let i = l .loop .inv in
     let pair : PairOfSteps (s .k) (l .loop .u + 1) = omega arith in
-    let lies = known-lies (i .0) (s .k) (l .loop .u + 1) pair _ (known .known-at .ensures) (c .if2 .taken) in
-    (place-fits (i .1) (omega arith) (asked .before .if1 .left) (asked .may-lie-below .ensures) lies refl, i .0)
+    let lies = known-lies (i .0) (s .k) (l .loop .u + 1) pair _ (known .known-at .ensures) (c .if3 .taken) in
+    (place-fits (i .1) (omega arith) (asked .before .if2 .left) (asked .may-lie-below .ensures) lies refl, i .0)
 
 some-fits-returns-3 : SomeFits some-fits-lts.Need-returns-3
 unfolding stepIn
@@ -150,13 +156,13 @@ some-fits-returns-3 t c =
     let asked = known .before .before in
     let turn = asked .before .before .before .before in
     let l = turn .before in
-    let start = l .before .before .before in
+    let start = l .before .before .before .before in
     let s = start .args in
     let below = turn .loop-test .taken in
     let pair : PairOfSteps (s .k) (l .loop .u + 1) = omega (arith, start .pre .1) in
-    let r = children-decide (lie .all-lie .ensures .1) (s .k) (l .loop .u + 1) pair _ _ (known .known-at .ensures) (unknown .if3 .taken)
+    let r = children-decide (lie .all-lie .ensures .1) (s .k) (l .loop .u + 1) pair _ _ (known .known-at .ensures) (unknown .if4 .taken)
     (lie .all-lie .ensures .0) (c .before .note .ensures) in
-    (place-fits (l .loop .inv .1) below (asked .before .if1 .left) (asked .may-lie-below .ensures) (r .0) (c .if4 .taken), r .1)
+    (place-fits (l .loop .inv .1) below (asked .before .if2 .left) (asked .may-lie-below .ensures) (r .0) (c .if5 .taken), r .1)
 
 some-fits-loop-again : SomeFits some-fits-lts.Need-loop-again
 unfolding stepIn
@@ -167,13 +173,13 @@ some-fits-loop-again t c =
     let asked = known .before .before in
     let turn = asked .before .before .before .before in
     let l = turn .before in
-    let start = l .before .before .before in
+    let start = l .before .before .before .before in
     let s = start .args in
     let below = turn .loop-test .taken in
     let pair : PairOfSteps (s .k) (l .loop .u + 1) = omega (arith, start .pre .1) in
-    let r = children-decide (lie .all-lie .ensures .1) (s .k) (l .loop .u + 1) pair _ _ (known .known-at .ensures) (unknown .if3 .taken)
+    let r = children-decide (lie .all-lie .ensures .1) (s .k) (l .loop .u + 1) pair _ _ (known .known-at .ensures) (unknown .if4 .taken)
     (lie .all-lie .ensures .0) (c .before .note .ensures) in
-    (r .1, place-doesn't (l .loop .inv .1) below (asked .before .if1 .left) (asked .may-lie-below .ensures) (r .0) (c .if4 .left))
+    (r .1, place-doesn't (l .loop .inv .1) below (asked .before .if2 .left) (asked .may-lie-below .ensures) (r .0) (c .if5 .left))
 
 some-fits-loop-again-2 : SomeFits some-fits-lts.Need-loop-again-2
 unfolding stepIn
@@ -181,11 +187,11 @@ some-fits-loop-again-2 t c =
     let known = c .before .before in
     let asked = known .before .before in
     let l = asked .before .before .before .before .before in
-    let s = l .before .before .before .args in
+    let s = l .before .before .before .before .args in
     let i = l .loop .inv in
     let pair : PairOfSteps (s .k) (l .loop .u + 1) = omega arith in
-    let doesn't = known-doesn't (i .0) (s .k) (l .loop .u + 1) pair _ (known .known-at .ensures) (c .if3 .left) in
-    (i .0, place-doesn't (i .1) (omega arith) (asked .before .if1 .left) (asked .may-lie-below .ensures) doesn't refl)
+    let doesn't = known-doesn't (i .0) (s .k) (l .loop .u + 1) pair _ (known .known-at .ensures) (c .if4 .left) in
+    (i .0, place-doesn't (i .1) (omega arith) (asked .before .if2 .left) (asked .may-lie-below .ensures) doesn't refl)
 
 some-fits-returns-4 : SomeFits some-fits-lts.Need-returns-4
 some-fits-returns-4 t c =
@@ -206,8 +212,10 @@ pub +all-lie+some-fits-spec : {M : Type 1} → statement M
     (all-lie-returns-2 t))
     λ t. some-fits-lts.spec (some-fits-calls t) (some-fits-at t) some-fits.Post some-fits-Inv-loop some-fits-μ-loop
     (λ c. omega arith) (λ c. omega arith) (λ c. omega arith)
+    -- the next step, if there is one
+    (λ c. omega arith) (λ c. omega arith) (λ c. search needs)
     -- what starred_leaf asks
-    (λ c κs. (c .before .pre .1 .0 .first, omega arith, omega arith))
+    (λ c κs. tt)
     (some-fits-loop-holds t) (λ c. omega arith) (λ c. omega arith) (λ c. search needs)
     (some-fits-returns t)
     (λ c. omega arith)
