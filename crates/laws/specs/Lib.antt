@@ -29,6 +29,8 @@ pub mod MergeLabels
 pub mod MergeNears
 -- building and fairness
 pub mod MemberBits
+pub mod Marks
+pub mod HasAll
 pub mod Unions
 pub mod Settling
 pub mod Chosen

@@ -1,12 +1,13 @@
--- Members as bits: of a union, of one subscription alone, of a delivery set; and the bounds of these numbers.
+-- Members as bits: of a union, of what two sets share, of one subscription alone, of a delivery set; and the bounds of these
+-- numbers.
 use Prim.Native.Nat.{ℕ, zero, suc, _+_, _/_, _%_, _^_, _≤_, _<_}
 use mathlib.Core.Path.{_≡_, refl, sym, ap, _∙_}
-use mathlib.Core.Bool.{Bool, true, false, _||_}
+use mathlib.Core.Bool.{Bool, true, false, _&&_, _||_}
 use mathlib.Core.List.{List, [], _∷_}
 use native.Mathlib.Omega.{arith}
 use native.Mathlib.Nat.{div-one, div-eq-of-lt, mod-lt, pow-suc, add-mul-div-left, add-mul-mod-self-left, lt-of-lt-of-le, mul-mod-left, mul-div-cancel, zero-add}
 use native.Mathlib.Numerals.{one-add}
-use lib.Bits.{bitOr, or-shr, or-mod, or-add-and, and-le-r}
+use lib.Bits.{bitAnd, bitOr, and-shr, and-mod, or-shr, or-mod, or-add-and, and-le-r}
 use lib.Dec.{eqb, eqb·zero-suc, eqb·suc-zero, eqb·suc-suc}
 use lib.ListN.{length, getD}
 use lib.Pow.{pow-mono, shr-shr}
@@ -45,6 +46,23 @@ member-or a b i =
     ap (λ (x : ℕ). eqb (x % 2) 1) (or-shr a b i)
     ∙ ap (λ (x : ℕ). eqb x 1) (or-mod (a / 2 ^ i) (b / 2 ^ i) 1)
     ∙ or-bits (a / 2 ^ i % 2) (b / 2 ^ i % 2) (mod-lt (a / 2 ^ i) two-pos) (mod-lt (b / 2 ^ i) two-pos)
+
+and-bits : (u v : ℕ) → u < 2 → v < 2 → eqb (bitAnd u v) 1 ≡ (eqb u 1 && eqb v 1)
+and-bits zero zero h k = refl
+and-bits zero (suc zero) h k = refl
+and-bits (suc zero) zero h k = refl
+and-bits (suc zero) (suc zero) h k = refl
+and-bits zero (suc (suc v)) h k = absurd (omega arith)
+and-bits (suc zero) (suc (suc v)) h k = absurd (omega arith)
+and-bits (suc (suc u)) v h k = absurd (omega arith)
+
+-- a member of what two sets share is a member of both
+pub member-and : (a b i : ℕ) → isMember (bitAnd a b) i ≡ (isMember a i && isMember b i)
+unfolding isMember
+member-and a b i =
+    ap (λ (x : ℕ). eqb (x % 2) 1) (and-shr a b i)
+    ∙ ap (λ (x : ℕ). eqb x 1) (and-mod (a / 2 ^ i) (b / 2 ^ i) 1)
+    ∙ and-bits (a / 2 ^ i % 2) (b / 2 ^ i % 2) (mod-lt (a / 2 ^ i) two-pos) (mod-lt (b / 2 ^ i) two-pos)
 
 -- no member has a number outside
 pub member-outside : (m n i : ℕ) → m < 2 ^ n → n ≤ i → isMember m i ≡ false

@@ -1,3 +1,2 @@
 pub mod Fitting
-pub mod Marks
 pub mod MemberBytes

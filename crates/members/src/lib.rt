@@ -9,8 +9,8 @@ ghost use Rattle.meaning.specs.Numbers.{mostPatterns};
 ghost use Rattle.meaning.specs.Fair.{isMember};
 ghost use Rattle.meaning.specs.Routing.{shedsIn, lowestShed};
 ghost use Rattle.meaning.specs.Written.{numberBytes};
+ghost use Rattle.laws.specs.Marks.{marked};
 ghost use Rattle.members.specs.Fitting.{membersFit};
-ghost use Rattle.members.specs.Marks.{marked};
 
 // Is subscription i a member?
 pub fn is_member(members: u64, i: usize) -> bool

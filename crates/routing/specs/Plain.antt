@@ -18,7 +18,7 @@ use Rattle.meaning.specs.Routing.{deliverySet, plainRoute}
 use Rattle.meaning.specs.Calls.{isSubscription, subscription}
 use Rattle.meaning.specs.declared.Asked.{Asked}
 use Rattle.meaning.specs.declared.Asked.the-variants as asked
-use Rattle.members.specs.Marks.{marked, delivery-last}
+use Rattle.laws.specs.Marks.{marked, delivery-last}
 use Rattle.shapes.specs.Shapes.{patternOf}
 use Rattle.reading.specs.SheetPlaces.{sheetAt}
 use Rattle.subscriptions.specs.declared.Subscriptions.{Subscriptions}

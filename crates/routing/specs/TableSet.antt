@@ -20,9 +20,9 @@ use Rattle.meaning.specs.Satisfying.{satisfies}
 use Rattle.meaning.specs.Fair.{isMember, hasMember}
 use Rattle.meaning.specs.Routing.{matchesFor, deliveredFrom, tableRoute}
 use Rattle.laws.specs.MemberBits.{member-none, member-delivery, delivery-lt}
+use Rattle.laws.specs.Marks.{marked, member-marked, marked-lt, same-members}
 use Rattle.laws.specs.Routes.{delivered-long, delivered-at}
 use Rattle.routing.specs.declared.by_table.Route.{Route}
-use Rattle.members.specs.Marks.{marked, member-marked, marked-lt, same-members}
 use Rattle.routing.specs.Tabling.{start, oneMore, memberTried, askMember, askMembers, askEntry, routeBy}
 
 module _ (ns : List Node) (ps : List Forest) where

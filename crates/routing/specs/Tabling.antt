@@ -18,8 +18,8 @@ use Rattle.meaning.specs.Building.{noEntry}
 use Rattle.meaning.specs.Satisfying.{satisfies}
 use Rattle.meaning.specs.Fair.{isMember}
 use Rattle.meaning.specs.Routing.{membersOf, triedFor, tried}
+use Rattle.laws.specs.Marks.{marked}
 use Rattle.routing.specs.declared.by_table.Route.{Route}
-use Rattle.members.specs.Marks.{marked}
 use Rattle.matching.specs.declared.Tried.{Tried}
 
 -- nothing is tried yet

@@ -68,11 +68,14 @@ module _ (p : Pattern) (sound : WellFormed p) where
   pub steps-end : (k : ℕ) → p .count ≤ k → drop k (stepsIn p) ≡ []
   steps-end k h = drop-of-length-le (stepsIn p) {i = k} (rw length-steps h)
 
-  -- the parent of a step has a lower number
+  -- the parents of the steps rise
+  pub steps-rise : Rising (stepParents (stepsIn p))
+  steps-rise = subst (λ (ss : List Step). Rising (stepParents ss)) (sound .written) (written-rises (patternOf p))
+
+  -- so the parent of a step has a lower number
   pub parent-low : (k : ℕ) → k < p .count → stepIn p k .parent ≤ k
   parent-low k h =
-      let rises : Rising (stepParents (stepsIn p)) = subst (λ (ss : List Step). Rising (stepParents ss)) (sound .written) (written-rises (patternOf p)) in
-      let low = parent-before (stepsIn p) rises (suc k) (omega arith) (rw length-steps h) in
+      let low = parent-before (stepsIn p) steps-rise (suc k) (omega arith) (rw length-steps h) in
       omega (arith, ap (λ (s : Step). s .parent) (step-at k h))
 
   -- after step v, or the root, stand the steps below it

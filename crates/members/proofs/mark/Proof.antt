@@ -3,7 +3,7 @@ use mathlib.Core.Path.{refl, ap, _∙_}
 use borrow.Author.Needs.{needs}
 use lib.Bits.{bitOr}
 use Rattle.base.specs.Choice.{pick-true, pick-false}
-use Rattle.members.specs.Marks.{marked}
+use Rattle.laws.specs.Marks.{marked}
 use Rattle.members.proofs.mark.Statement.{statement}
 use Rattle.members.proofs.mark.Tie as tie
 
