@@ -83,8 +83,8 @@ uint8_t read_only_pattern(Pattern *pattern, const Sheet *sheet, const uint8_t *b
 // reading.c: writes a pattern's steps after their count, and gives how many bytes that took.
 size_t write_pattern(uint8_t *to, const Pattern *pattern);
 
-// matching.c
-bool satisfies(const Document *document, const Pattern *pattern);
+// matching_by_cells.c
+bool satisfies_by_cells(const Document *document, const Pattern *pattern);
 
 // covering.c: a search for places on the ground for the steps of the laid pattern. notes[v - 1][w - 1] is what is known
 // of step v's children below step w.

@@ -33,7 +33,7 @@ Routed hand_plain_route(const uint8_t *sheet_bytes, size_t sheet_length, const u
         return (Routed){number, 0};
     uint64_t delivered = 0;
     for (unsigned i = 0; i < sheet.count; i++)
-        delivered |= (uint64_t)satisfies(&document, &sheet.patterns[i]) << i;
+        delivered |= (uint64_t)satisfies_by_cells(&document, &sheet.patterns[i]) << i;
     return (Routed){DONE, delivered};
 }
 
@@ -61,7 +61,7 @@ static uint8_t judge(Judged *judged, const uint8_t *sheet_bytes, size_t sheet_le
 static bool try_pattern(const Document *document, const Pattern *pattern, uint64_t *tried)
 {
     ++*tried;
-    return satisfies(document, pattern);
+    return satisfies_by_cells(document, pattern);
 }
 
 // To every shed that gets the notice; or to the first of them, and nothing is tried after it.

@@ -23,7 +23,7 @@ static bool root_steps_hold(const uint8_t *below_top, const Pattern *pattern)
     return true;
 }
 
-bool satisfies(const Document *document, const Pattern *pattern)
+bool satisfies_by_cells(const Document *document, const Pattern *pattern)
 {
     uint8_t cells[MOST_NODES + 1][MOST_STEPS];
     memset(cells, 0, (document->count + 1) * sizeof cells[0]);
