@@ -83,7 +83,10 @@ uint8_t read_only_pattern(Pattern *pattern, const Sheet *sheet, const uint8_t *b
 // reading.c: writes a pattern's steps after their count, and gives how many bytes that took.
 size_t write_pattern(uint8_t *to, const Pattern *pattern);
 
-// matching_by_cells.c
+// matching.c: one word a node.
+bool satisfies(const Document *document, const Pattern *pattern);
+
+// matching_by_cells.c: the same by one cell a step and node, as it was done before, for a plain route of its own.
 bool satisfies_by_cells(const Document *document, const Pattern *pattern);
 
 // covering.c: a search for places on the ground for the steps of the laid pattern. notes[v - 1][w - 1] is what is known
@@ -110,6 +113,8 @@ extern const bool barred[256];
 
 uint8_t hand_sheet_check(const uint8_t *sheet, size_t sheet_length);
 Routed hand_plain_route(const uint8_t *sheet, size_t sheet_length, const uint8_t *document, size_t document_length);
+Routed hand_plain_route_by_cells(const uint8_t *sheet, size_t sheet_length, const uint8_t *document,
+                                 size_t document_length);
 Tabled hand_table_route(const uint8_t *sheet, size_t sheet_length, const uint8_t *table, size_t table_length,
                         const uint8_t *document, size_t document_length);
 Asked hand_wanted(const uint8_t *sheet, size_t sheet_length, const uint8_t *table, size_t table_length,

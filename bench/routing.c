@@ -21,8 +21,10 @@ static bool is_fair(const Table *table, const Sheet *sheet)
     return true;
 }
 
-Routed hand_plain_route(const uint8_t *sheet_bytes, size_t sheet_length, const uint8_t *document_bytes,
-                        size_t document_length)
+typedef bool Matcher(const Document *document, const Pattern *pattern);
+
+static inline Routed plain_route(Matcher *matcher, const uint8_t *sheet_bytes, size_t sheet_length,
+                                 const uint8_t *document_bytes, size_t document_length)
 {
     Sheet sheet;
     Document document;
@@ -33,8 +35,19 @@ Routed hand_plain_route(const uint8_t *sheet_bytes, size_t sheet_length, const u
         return (Routed){number, 0};
     uint64_t delivered = 0;
     for (unsigned i = 0; i < sheet.count; i++)
-        delivered |= (uint64_t)satisfies_by_cells(&document, &sheet.patterns[i]) << i;
+        delivered |= (uint64_t)matcher(&document, &sheet.patterns[i]) << i;
     return (Routed){DONE, delivered};
+}
+
+Routed hand_plain_route(const uint8_t *sheet, size_t sheet_length, const uint8_t *document, size_t document_length)
+{
+    return plain_route(satisfies, sheet, sheet_length, document, document_length);
+}
+
+Routed hand_plain_route_by_cells(const uint8_t *sheet, size_t sheet_length, const uint8_t *document,
+                                 size_t document_length)
+{
+    return plain_route(satisfies_by_cells, sheet, sheet_length, document, document_length);
 }
 
 // All that a route by a table needs, once it is judged.
@@ -61,7 +74,7 @@ static uint8_t judge(Judged *judged, const uint8_t *sheet_bytes, size_t sheet_le
 static bool try_pattern(const Document *document, const Pattern *pattern, uint64_t *tried)
 {
     ++*tried;
-    return satisfies_by_cells(document, pattern);
+    return satisfies(document, pattern);
 }
 
 // To every shed that gets the notice; or to the first of them, and nothing is tried after it.
