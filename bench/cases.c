@@ -3,7 +3,7 @@
 #include "inputs.h"
 #include "tables.h"
 
-enum { MOST_SECTIONS = 24, MOST_CASES = 160, MOST_QUESTIONS = 4096 };
+enum { MOST_SECTIONS = 24, MOST_CASES = 160, MOST_QUESTIONS = 8192 };
 
 Section sections[MOST_SECTIONS];
 unsigned section_count;
@@ -15,7 +15,7 @@ static unsigned case_count, question_count;
 static const Shape bushy = {16, 50, 25, false};
 static const Shape far_chain = {16, 100, 25, true};
 static const Shape subscription = {8, 50, 25, false};
-enum { FEW_LABELS = 3, LABELS = 8, DOCUMENTS = 4, PAIRS = 16 };
+enum { FEW_LABELS = 3, LABELS = 8, DOCUMENTS = 64, PAIRS = 16 };
 
 // ---- putting sections, cases and questions
 
@@ -64,18 +64,23 @@ static void draw_with_table(Question *to, unsigned subscriptions, Shape shape)
     start_random(after_one);
 }
 
-// One case of a route over some documents.
+// One case of a route over so many documents that the processor does not learn their jumps by heart. Those past the
+// fourth shift no later input.
 static void add_route(Call call, Case *to, unsigned nodes, unsigned subscriptions, Shape shape)
 {
+    uint64_t after_four = 0;
     Question question = {.call = call};
     if (call == TABLE_ROUTE)
         draw_with_table(&question, subscriptions, shape);
     else
         question.sheet = random_sheet(LABELS, subscriptions, shape);
     for (unsigned i = 0; i < DOCUMENTS; i++) {
+        if (i == 4)
+            after_four = random_place();
         question.document = random_document(LABELS, nodes);
         add_question(to, question);
     }
+    start_random(after_four);
 }
 
 static void add_routes(Call call, const char *title)

@@ -3,7 +3,7 @@
 #include "inputs.h"
 #include "tables.h"
 
-enum { MOST_QUESTIONS = 640 };
+enum { MOST_QUESTIONS = 2048, DOCUMENTS = 64 };
 
 static Question questions[MOST_QUESTIONS];
 static unsigned question_count;
@@ -51,7 +51,6 @@ static Pair *add_pair(Pairs *to, const char *name, Part sheet, Part table, unsig
 
 static void add_rare(Part sheet, Part table)
 {
-    enum { DOCUMENTS = 32 };
     for (unsigned nodes = 16; nodes <= 1024; nodes *= 8) {
         char name[48];
         Part documents[DOCUMENTS];
@@ -94,15 +93,26 @@ static void check_kind(const Kind *kind, const Pair *pair)
     }
 }
 
+// Where another member matches by chance the document is drawn again.
+static Part document_of_kind(const Kind *kind, unsigned nodes, Part sheet, Part table)
+{
+    static Answer route;
+    Question question = {TABLE_ROUTE, .sheet = sheet, .table = table};
+    do {
+        question.document = planted_document(nodes, kind->planted);
+        ask_afresh(&route, &sides[0], &question);
+    } while (route.value != kind->delivered);
+    return question.document;
+}
+
 static void add_kind(const Kind *kind, Part sheet, Part table)
 {
-    enum { DOCUMENTS = 8 };
     for (unsigned nodes = 16; nodes <= 1024; nodes *= 8) {
         char name[48];
         Part documents[DOCUMENTS];
         snprintf(name, sizeof name, "%s, %u entries, %u nodes", kind->name, table.at[0], nodes);
         for (unsigned i = 0; i < DOCUMENTS; i++)
-            documents[i] = planted_document(nodes, kind->planted);
+            documents[i] = document_of_kind(kind, nodes, sheet, table);
         check_kind(kind, add_pair(&wanteds, name, sheet, table, DOCUMENTS, documents));
     }
 }
@@ -129,6 +139,6 @@ static void add_wanteds(void)
 void make_pairs(void)
 {
     add_rares();
-    start_random(2); // a seed by which no other member matches where the last one is planted
+    start_random(2);
     add_wanteds();
 }
