@@ -21,7 +21,7 @@ enum { FEW_LABELS = 3, LABELS = 8, DOCUMENTS = 64, PAIRS = 16 };
 
 void add_section(const char *title, bool grows)
 {
-    sections[section_count++] = (Section){title, grows, 0, cases + case_count};
+    sections[section_count++] = (Section){.title = title, .grows = grows, .cases = cases + case_count};
 }
 
 Case *add_case(const char *what, unsigned number, const char *of)

@@ -11,10 +11,11 @@ typedef struct {
     Question *questions;
 } Case;
 
-// Rows under a title. Where they grow, each asks for twice as much as the row before.
+// Rows under a title. Where they grow, each asks for twice as much as the row before. Where they stand beside cells,
+// these are timed too.
 typedef struct {
     const char *title;
-    bool grows;
+    bool grows, beside_cells;
     unsigned count;
     Case *cases;
 } Section;

@@ -152,6 +152,42 @@ Part random_document(unsigned labels, unsigned nodes)
     return end_part();
 }
 
+static unsigned smaller(unsigned a, unsigned b)
+{
+    return a < b ? a : b;
+}
+
+static unsigned root_rounded_up(unsigned n)
+{
+    unsigned root = 0;
+    while (root * root < n)
+        root++;
+    return root;
+}
+
+// The node that node u hangs on; u is not the first.
+static unsigned node_above(unsigned u, unsigned nodes, Hanging hanging)
+{
+    unsigned last = u - 1;
+    if (hanging == WIDE)
+        return 1 + below(smaller(last, root_rounded_up(nodes)));
+    if (hanging == DEEP)
+        return last - below(smaller(last, 4));
+    return last;
+}
+
+Part hung_document(unsigned labels, unsigned nodes, Hanging hanging)
+{
+    begin_part();
+    put_labels(2, 'x');
+    put_two(nodes);
+    for (unsigned u = 1; u <= nodes; u++) {
+        put_two(u == 1 ? 0 : node_above(u, nodes, hanging));
+        put(1 + below(labels + 2));
+    }
+    return end_part();
+}
+
 static void put_family_pattern(unsigned family, bool star)
 {
     unsigned first = 1 + FAMILIES + (star ? CHAIN_PARTS : 0), parts = star ? STAR_PARTS : CHAIN_PARTS;

@@ -31,6 +31,11 @@ Part covered_sheet(unsigned labels, Shape shape);
 // A document beside a sheet of so many labels, with two labels of its own. Each node hangs on any before it.
 Part random_document(unsigned labels, unsigned nodes);
 
+// The same, but each node hangs on one of the first, as many as the square root of all, rounded up; or on one of the
+// four before it; or on the one before it.
+typedef enum { WIDE, DEEP, CHAIN } Hanging;
+Part hung_document(unsigned labels, unsigned nodes, Hanging hanging);
+
 // Subscriptions of which few match: families, each with a label of its own, which only one document of four has. The
 // members of a family are chains //F/p/q/r and stars //F[/x][/y][/z] by turns, with parts from two sets of labels.
 enum { FAMILIES = 8, CHAIN_PARTS = 4, STAR_PARTS = 4, FAMILY_LABELS = FAMILIES + CHAIN_PARTS + STAR_PARTS };

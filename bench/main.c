@@ -7,6 +7,7 @@
 #include "report.h"
 #include "stack.h"
 #include "tables.h"
+#include "word_cases.h"
 
 static void check_examples(void)
 {
@@ -28,30 +29,39 @@ static void print_answer(const Side *side, const Answer *answer)
 static unsigned checked, wrong;
 
 // Says what is wrong with an answer; past some there is no use in showing more.
-static void complain(const char *of, const char *what, const Answer *first, const Answer *other)
+static void complain(const char *of, const char *what, const Answer *first, const Side *side, const Answer *other)
 {
     enum { MOST_SHOWN = 20 };
     if (++wrong > MOST_SHOWN)
         return;
     printf("%s: %s\n", of, what);
     print_answer(&sides[0], first);
-    if (other != NULL)
-        print_answer(&sides[1], other);
+    if (side != NULL)
+        print_answer(side, other);
 }
 
-// What both sides answer; NULL where they differ.
+// Does this side answer as the first one did?
+static bool agrees(const Side *side, const char *of, const Question *question, const Answer *first)
+{
+    static Answer other;
+    ask_afresh(&other, side, question);
+    if (same(first, &other))
+        return true;
+    complain(of, "the answers, or the bytes written, differ", first, side, &other);
+    return false;
+}
+
+// What both sides answer, and in a plain route the matcher by cells; NULL where they differ.
 static const Answer *check_alike(const char *of, const Question *question)
 {
-    static Answer first, other;
+    static Answer first;
     checked++;
     ask_afresh(&first, &sides[0], question);
-    if (side_count == 1)
-        return &first;
-    ask_afresh(&other, &sides[1], question);
-    if (same(&first, &other))
-        return &first;
-    complain(of, "the answers, or the bytes written, differ", &first, &other);
-    return NULL;
+    if (side_count > 1 && !agrees(&sides[1], of, question, &first))
+        return NULL;
+    if (question->call == PLAIN_ROUTE && !agrees(&by_cells, of, question, &first))
+        return NULL;
+    return &first;
 }
 
 // What is timed is not refused.
@@ -59,7 +69,7 @@ static void check_question(const char *of, const Question *question)
 {
     const Answer *answer = check_alike(of, question);
     if (answer != NULL && answer->number != 0)
-        complain(of, "the input is refused", answer, NULL);
+        complain(of, "the input is refused", answer, NULL, NULL);
 }
 
 static void check_case(const char *title, const Case *of)
@@ -130,6 +140,7 @@ int main(int count, char **words)
     check_examples();
     make_cases();
     make_pairs();
+    make_word_cases();
     make_line_cases();
     check_cases();
     if (count == 2 && strcmp(words[1], "--compare") == 0) {

@@ -44,6 +44,8 @@ static void print_nothing(const char *head)
 // ---- sections
 
 static const char *const nanoseconds[MOST_SIDES] = {"by hand, ns a call", "proved, ns a call"};
+static const char cell_nanoseconds[] = "by cells, ns a call";
+static const char *const cells_to[MOST_SIDES] = {"cells to by hand", "cells to proved"};
 static const char growth[] = "to the row above";
 static const char ratio[] = "proved to by hand";
 
@@ -51,10 +53,14 @@ static Heads section_heads(const Section *section)
 {
     Heads heads = {0};
     add_head(&heads, "case");
+    if (section->beside_cells)
+        add_head(&heads, cell_nanoseconds);
     for (unsigned s = 0; s < side_count; s++) {
         add_head(&heads, nanoseconds[s]);
         if (section->grows)
             add_head(&heads, growth);
+        if (section->beside_cells)
+            add_head(&heads, cells_to[s]);
     }
     if (side_count > 1)
         add_head(&heads, ratio);
@@ -64,12 +70,16 @@ static Heads section_heads(const Section *section)
 // The times of a row and, where the section grows, what they are to those above, of which the first row has none.
 static void print_times(const Section *section, const Times *times, const Times *above)
 {
+    if (section->beside_cells)
+        print_number(cell_nanoseconds, 0, times->by_cells);
     for (unsigned s = 0; s < side_count; s++) {
         print_number(nanoseconds[s], 0, times->of[s]);
         if (section->grows && above == NULL)
             print_nothing(growth);
         else if (section->grows)
             print_number(growth, 2, times->of[s] / above->of[s]);
+        if (section->beside_cells)
+            print_number(cells_to[s], 2, times->by_cells / times->of[s]);
     }
     if (side_count > 1)
         print_number(ratio, 2, times->of[1] / times->of[0]);
@@ -82,7 +92,7 @@ void report_section(const Section *section)
     Times times, above;
     print_heads(section->title, &heads);
     for (unsigned i = 0; i < section->count; i++) {
-        times = time_case(&section->cases[i]);
+        times = time_case(&section->cases[i], section->beside_cells);
         print_name(section->cases[i].name);
         print_times(section, &times, i == 0 ? NULL : &above);
         above = times;
@@ -151,7 +161,7 @@ void report_rares(void)
     print_heads(rares.title, &heads);
     for (unsigned i = 0; i < rares.count; i++) {
         const Pair *rare = &rares.of[i];
-        Times plain = time_case(&rare->first), table = time_case(&rare->second);
+        Times plain = time_case(&rare->first, false), table = time_case(&rare->second, false);
         print_name(rare->first.name);
         print_tries(&rare->second);
         print_pair(&rare_times, &plain, &table);
@@ -182,7 +192,7 @@ void report_wanteds(void)
     print_heads(wanteds.title, &heads);
     for (unsigned i = 0; i < wanteds.count; i++) {
         const Pair *pair = &wanteds.of[i];
-        Times table = time_case(&pair->first), wanted = time_case(&pair->second);
+        Times table = time_case(&pair->first, false), wanted = time_case(&pair->second, false);
         print_name(pair->first.name);
         print_pair(&wanted_times, &table, &wanted);
         if (side_count > 1) {

@@ -11,6 +11,7 @@ const Side sides[] = {
 #endif
 };
 const unsigned side_count = sizeof sides / sizeof sides[0];
+const Side by_cells = {.name = "by cells", .plain_route = hand_plain_route_by_cells};
 
 const char *const call_names[] = {
     [SHEET_CHECK] = "sheet check",

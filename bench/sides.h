@@ -23,6 +23,9 @@ typedef struct {
 extern const Side sides[];
 extern const unsigned side_count;
 
+// By hand with one cell a step and node: a plain route alone.
+extern const Side by_cells;
+
 typedef enum {
     SHEET_CHECK,
     PLAIN_ROUTE,

@@ -34,7 +34,15 @@ static unsigned times_for(const Case *timed)
     return times;
 }
 
-Times time_case(const Case *timed)
+// One round of a side, whose time a call is kept if it is the best so far.
+static void time_round(double *best, unsigned round, const Side *side, const Case *timed, unsigned times)
+{
+    double took = pass(side, timed, times) / ((double)times * timed->count);
+    if (round == 0 || took < *best)
+        *best = took;
+}
+
+Times time_case(const Case *timed, bool beside_cells)
 {
     double began = now();
     unsigned times = times_for(timed);
@@ -42,11 +50,10 @@ Times time_case(const Case *timed)
     for (unsigned round = 0; round < ROUNDS; round++) {
         if (round >= FEWEST_ROUNDS && now() - began > budget)
             break;
-        for (unsigned s = 0; s < side_count; s++) {
-            double took = pass(&sides[s], timed, times) / ((double)times * timed->count);
-            if (round == 0 || took < best.of[s])
-                best.of[s] = took;
-        }
+        for (unsigned s = 0; s < side_count; s++)
+            time_round(&best.of[s], round, &sides[s], timed, times);
+        if (beside_cells)
+            time_round(&best.by_cells, round, &by_cells, timed, times);
     }
     return best;
 }

@@ -6,11 +6,11 @@
 
 enum { MOST_SIDES = 2 };
 
-// Nanoseconds a call, for each side.
+// Nanoseconds a call, for each side, and by cells where these are timed too.
 typedef struct {
-    double of[MOST_SIDES];
+    double of[MOST_SIDES], by_cells;
 } Times;
 
-Times time_case(const Case *timed);
+Times time_case(const Case *timed, bool beside_cells);
 
 #endif
