@@ -3,7 +3,7 @@
 
 enum { ROUNDS = 15, FEWEST_ROUNDS = 2 };
 static const double sample = 1e6; // a sample lasts at least so many nanoseconds on the first side
-static const double budget = 4e8; // past so many nanoseconds a case gets no further round
+static const double budget = 2e9; // past so many nanoseconds a case gets no further round
 
 static Answer answer;
 
