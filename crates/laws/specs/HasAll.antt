@@ -30,7 +30,9 @@ below-power (suc n) = omega (arith, below-power n, pow-suc 2 n)
 -- and a word that has each has all
 pub each-has : (h m : ℕ) → ((i : ℕ) → isMember m i ≡ true → isMember h i ≡ true) → hasAll h m ≡ true
 unfolding hasAll
-each-has h m each = eq-eqb (bitAnd h m) m (same-members m (bitAnd h m) m (omega (arith, and-le-r h m, below-power m)) (below-power m) (λ i l. member-and h m i ∙ shared i))
+each-has h m each =
+    let below = below-power m in
+    eq-eqb (bitAnd h m) m (same-members m (bitAnd h m) m (omega (arith, and-le-r h m)) below (λ i l. member-and h m i ∙ shared i))
   where
     shared : (i : ℕ) → (isMember h i && isMember m i) ≡ isMember m i
     shared i = both-ways _ _ (and-second (isMember h i) (isMember m i)) (λ e. and-both (isMember h i) (isMember m i) (each i e) e)

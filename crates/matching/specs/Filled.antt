@@ -19,7 +19,7 @@ use Rattle.meaning.specs.declared.Step.{Step}
 use Rattle.laws.specs.Rising.{Rising}
 use Rattle.laws.specs.Below.{ByChild, child-above, reaches-child, reaches-join, reaches-split}
 use Rattle.laws.specs.Children.{childrenOf}
-use Rattle.matching.specs.NodeNotes.{Whole, noted, StepNumber}
+use Rattle.matching.specs.NodeNotes.{noted, StepNumber}
 use Rattle.matching.specs.Giving.{fits, givesUp}
 use Rattle.matching.specs.Nodes.{length-parentsOf}
 
@@ -51,9 +51,9 @@ abbrev pub givenBelow : List Node → List Step → ℕ → ℕ → Bool
 givenBelow ns ss t k = some (givenBy ns ss t k) (numbersFrom 1 (length ns))
 
 -- the notes when the nodes above u are done
-pub record Filled (ns : List Node) (ss : List Step) (u : ℕ) (cells : List ℕ) : Type 0 where
-  pub full : Whole cells
-  pub notes : (t k : ℕ) → StepNumber k → k ≤ length ss → noted cells t k ≡ some (givenBy ns ss t k) (numbersFrom (suc u) (length ns - u))
+pub record Filled (ns : List Node) (ss : List Step) (u : ℕ) (words : List ℕ) : Type 0 where
+  pub full : length ns < length words
+  pub notes : (t k : ℕ) → StepNumber ss k → noted words t k ≡ some (givenBy ns ss t k) (numbersFrom (suc u) (length ns - u))
 
 -- axis 0 is near, every other is far
 axis-cases : (a : ℕ) → (axisOf a ≡ near) ⊎ ((axisOf a ≡ far) × (not (eqb a 0) ≡ true))
@@ -149,5 +149,5 @@ module _ (ns : List Node) (ss : List Step) (rising : Rising (parentsOf ns)) wher
       some-number-of _ 1 (length ns) w (omega arith) (omega arith) e)
 
   -- when the nodes above u are done, the notes below u are what they will be
-  pub done-below : (cells : List ℕ) (u k : ℕ) → u ≤ length ns → Filled ns ss u cells → StepNumber k → k ≤ length ss → noted cells u k ≡ stepHolds ns ss u k
-  done-below cells u k l f m h = f .notes u k m h ∙ sym (both-ways _ _ (holds-given u k) (given-holds u k) ∙ children-later u k l)
+  pub done-below : (words : List ℕ) (u k : ℕ) → u ≤ length ns → Filled ns ss u words → StepNumber ss k → noted words u k ≡ stepHolds ns ss u k
+  done-below words u k l f m = f .notes u k m ∙ sym (both-ways _ _ (holds-given u k) (given-holds u k) ∙ children-later u k l)

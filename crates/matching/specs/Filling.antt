@@ -1,6 +1,6 @@
 -- The notes are filled from the last node to the first; at the end the root steps' notes say whether the document satisfies
 -- the pattern.
-use Prim.Native.Nat.{ℕ, suc, _-_, _≤_}
+use Prim.Native.Nat.{ℕ, suc, _-_, _≤_, _<_}
 use mathlib.Core.Path.{_≡_, refl, sym, _∙_, ap}
 use mathlib.Core.Bool.{Bool, true, false, _&&_, or-comm}
 use mathlib.Core.List.{List, [], _∷_}
@@ -8,7 +8,7 @@ use native.Mathlib.Omega.{arith}
 use native.Mathlib.Nat.{add-zero}
 use native.Mathlib.Numerals.{add-one}
 use lib.Dec.{eqb}
-use lib.ListN.{length, getD, drop, length-drop}
+use lib.ListN.{length, getD, drop, length-drop, replicate, length-replicate}
 use lib.Seq.{getD-drop, drop-drop}
 use Rattle.base.specs.Choice.{pick}
 use Rattle.base.specs.Lists.{some, numbersFrom}
@@ -19,15 +19,14 @@ use Rattle.meaning.specs.Covering.{stepAt}
 use Rattle.meaning.specs.declared.Step.{Step}
 use Rattle.laws.specs.Rising.{Rising}
 use Rattle.laws.specs.Children.{childrenFrom, childrenOf}
-use Rattle.matching.specs.NodeNotes.{blank, noted, StepNumber, blank-whole, blank-noted}
+use Rattle.matching.specs.NodeNotes.{noted, StepNumber, blank-noted}
 use Rattle.matching.specs.Giving.{kidsHold, givesAt}
-use Rattle.matching.specs.Going.{Gave}
+use Rattle.matching.specs.Gave.{Gave}
 use Rattle.matching.specs.Filled.{stepHolds, givenBy, Filled, done-below}
-use Rattle.meaning.specs.Numbers.{mostSteps}
 
-module _ (ns : List Node) (ss : List Step) (rising : Rising (parentsOf ns)) (few : length ss ≤ mostSteps) where
+module _ (ns : List Node) (ss : List Step) (rising : Rising (parentsOf ns)) where
   -- every child step of q holds, by what is noted of each, exactly if the forest of these steps holds
-  kids-are : (h : ℕ → Bool) (t : ℕ) → ((k : ℕ) → StepNumber k → k ≤ length ss → h k ≡ stepHolds ns ss t k)
+  kids-are : (h : ℕ → Bool) (t : ℕ) → ((k : ℕ) → StepNumber ss k → h k ≡ stepHolds ns ss t k)
       → (q j : ℕ) (rest : List Step) → drop j ss ≡ rest → kidsHold h q (suc j) rest ≡ holdBelow ns (childrenIn q (suc j) rest) t
   unfolding kidsHold holdBelow childrenIn pick stepHolds childrenOf childrenFrom stepAt
   kids-are h t say q j [] e = refl
@@ -47,7 +46,7 @@ module _ (ns : List Node) (ss : List Step) (rising : Rising (parentsOf ns)) (few
       here : h (suc j) ≡ some (fitsBelow ns t (axisOf (s .axis)) (s .label) (holdBelow ns kids)) (numbersFrom 1 (length ns))
       here =
           let there : suc j ≤ length ss = omega (arith, length-drop j ss, ap length e) in
-          say (suc j) (record { low = omega arith; high = omega arith }) there ∙ rw (this, next)
+          say (suc j) (record { low = omega arith; high = there }) ∙ rw (this, next)
 
       go : (b all : Bool) (others : Forest) → all ≡ holdBelow ns others t
           → pick b (h (suc j) && all) all ≡ holdBelow ns (pick b (step (axisOf (s .axis)) (s .label) kids others) others) t
@@ -55,37 +54,37 @@ module _ (ns : List Node) (ss : List Step) (rising : Rising (parentsOf ns)) (few
       go false all others later = later
 
   -- before the first node nothing is noted
-  pub fill-starts : Filled ns ss (length ns) blank
+  pub fill-starts : (size : ℕ) → length ns < size → Filled ns ss (length ns) (replicate size 0)
   unfolding numbersFrom some
-  fill-starts = record { full = blank-whole; notes = λ t k m l. blank-noted t k ∙ rw none-left }
+  fill-starts size h = record { full = rw (length-replicate {A = ℕ} size 0) h; notes = λ t k n. blank-noted size t k ∙ rw none-left }
     where
       none-left : length ns - length ns ≡ 0
       none-left = omega arith
 
   -- one node more
-  module _ (cells cells' : List ℕ) (u up label : ℕ) (there : suc u ≤ length ns) (f : Filled ns ss (suc u) cells) where
-    say : (k : ℕ) → StepNumber k → k ≤ length ss → noted cells (suc u) k ≡ stepHolds ns ss (suc u) k
-    say k m h = done-below ns ss rising cells (suc u) k there f m h
+  module _ (words words' : List ℕ) (u up label : ℕ) (there : suc u ≤ length ns) (f : Filled ns ss (suc u) words) where
+    say : (k : ℕ) → StepNumber ss k → noted words (suc u) k ≡ stepHolds ns ss (suc u) k
+    say k n = done-below ns ss rising words (suc u) k there f n
 
     -- what the node gives by the notes is what it gives
-    gives-it : (t k : ℕ) → StepNumber k → k ≤ length ss → up ≡ parentIn (parentsOf ns) (suc u) → label ≡ labelIn ns (suc u)
-        → (eqb up t && givesAt (noted cells (suc u)) label ss k) ≡ givenBy ns ss t k (suc u)
+    gives-it : (t k : ℕ) → StepNumber ss k → up ≡ parentIn (parentsOf ns) (suc u) → label ≡ labelIn ns (suc u)
+        → (eqb up t && givesAt (noted words (suc u)) label ss k) ≡ givenBy ns ss t k (suc u)
     unfolding givesAt givenBy isChild parentIn childrenOf childrenFrom
-    gives-it t k m h e n = rw (e, n, kids-are (noted cells (suc u)) (suc u) say k k (drop k ss) refl, say k m h)
+    gives-it t k n e l = rw (e, l, kids-are (noted words (suc u)) (suc u) say k k (drop k ss) refl, say k n)
 
-    pub fill-goes-on : up ≡ parentIn (parentsOf ns) (suc u) → label ≡ labelIn ns (suc u) → Gave cells cells' ss (suc u) up label → Filled ns ss u cells'
+    pub fill-goes-on : up ≡ parentIn (parentsOf ns) (suc u) → label ≡ labelIn ns (suc u) → Gave words words' ss (suc u) up label → Filled ns ss u words'
     unfolding numbersFrom some
-    fill-goes-on e n g = record { full = g .full; notes = notes }
+    fill-goes-on e l g = record { full = rw (g .full) (f .full); notes = notes }
       where
         one-more : length ns - u ≡ suc (length ns - suc u)
         one-more = omega arith
 
-        notes : (t k : ℕ) → StepNumber k → k ≤ length ss → noted cells' t k ≡ some (givenBy ns ss t k) (numbersFrom (suc u) (length ns - u))
-        notes t k m h =
+        notes : (t k : ℕ) → StepNumber ss k → noted words' t k ≡ some (givenBy ns ss t k) (numbersFrom (suc u) (length ns - u))
+        notes t k n =
             let others = some (givenBy ns ss t k) (numbersFrom (suc (suc u)) (length ns - suc u)) in
-            g .notes t k m h ∙ rw (gives-it t k m h e n, f .notes t k m h, one-more) (or-comm others (givenBy ns ss t k (suc u)))
+            g .notes t k n ∙ rw (gives-it t k n e l, f .notes t k n, one-more) (or-comm others (givenBy ns ss t k (suc u)))
 
   -- after the last node the root steps' notes are the answer
-  pub fill-ends : (cells : List ℕ) → Filled ns ss 0 cells → kidsHold (noted cells 0) 0 1 ss ≡ satisfies ns (forest ss)
+  pub fill-ends : (words : List ℕ) → Filled ns ss 0 words → kidsHold (noted words 0) 0 1 ss ≡ satisfies ns (forest ss)
   unfolding satisfies forest
-  fill-ends cells f = kids-are (noted cells 0) 0 (λ k m l. done-below ns ss rising cells 0 k (omega arith) f m l) 0 0 ss refl
+  fill-ends words f = kids-are (noted words 0) 0 (λ k n. done-below ns ss rising words 0 k (omega arith) f n) 0 0 ss refl

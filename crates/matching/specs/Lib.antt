@@ -1,8 +1,10 @@
 pub mod NodeNotes
 pub mod Giving
-pub mod Going
+pub mod Masks
+pub mod Turns
+pub mod GivenBits
+pub mod Gave
+pub mod Nodes
 pub mod Filled
 pub mod Filling
-pub mod Nodes
-pub mod Top
 pub mod Document

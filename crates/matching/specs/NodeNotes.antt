@@ -1,85 +1,59 @@
--- The notes: one cell for each step and node. Which cell is whose is said here and nowhere else.
-use Prim.Native.Nat.{ℕ, zero, suc, _+_, _*_, _≤_, _<_}
-use mathlib.Core.Path.{_≡_, refl, sym, _∙_, ap}
-use mathlib.Core.Bool.{Bool, true, false, _&&_, _||_, or-true, or-false}
-use borrow.Author.Tests.{eqb-true, eqb-false}
-use native.Mathlib.Omega.{arith}
-use lib.Dec.{eqb}
-use lib.ListN.{length, getD, set, length-set, replicate, length-replicate}
-use lib.Seq.{getD-set-same, getD-set-other}
+-- The notes: one word for each node, and for the top. Which bit is whose is said here and nowhere else.
+use Prim.Native.Nat.{ℕ, zero, suc, _≤_, _<_}
+use mathlib.Core.Path.{_≡_, refl, sym, ap, _∙_}
+use mathlib.Core.Bool.{Bool, true, false, _&&_, _||_, or-false}
 use mathlib.Core.List.{List}
-use Rattle.meaning.specs.Numbers.{mostNodes, mostSteps}
+use borrow.Author.Tests.{eqb-true, eqb-false}
+use lib.Bits.{bitOr}
+use lib.Dec.{eqb}
+use lib.ListN.{length, getD, set, replicate}
+use lib.Seq.{getD-set-same, getD-set-other}
+use Rattle.meaning.specs.Fair.{isMember}
+use Rattle.meaning.specs.declared.Step.{Step}
+use Rattle.laws.specs.MemberBits.{member-none, member-or}
 
--- a cell for each step at each node and at the top; cell 0 is not used
-abbrev pub cellCount : ℕ
-cellCount = mostSteps * (mostNodes + 1) + 1
+-- k is the number of one of the steps, which are counted from 1
+pub record StepNumber (ss : List Step) (k : ℕ) : Type 0 where
+  pub low : 1 ≤ k
+  pub high : k ≤ length ss
 
--- all cells are there
-abbrev pub Whole : List ℕ → Type 0
-Whole cells = length cells ≡ cellCount
-
--- the cells before anything is noted
-abbrev pub blank : List ℕ
-blank = replicate cellCount 0
+-- a word has step k: bit k - 1 is set
+unfoldable pub hasStep : ℕ → ℕ → Bool
+hasStep word zero = false
+hasStep word (suc i) = isMember word i
 
 -- it is noted that step k holds below node t
 unfoldable pub noted : List ℕ → ℕ → ℕ → Bool
-noted cells t k = eqb (getD cells (mostSteps * t + k) 0) 1
+noted words t k = hasStep (getD words t 0) k
 
--- steps are numbered from 1 to 16
-pub record StepNumber (k : ℕ) : Type 0 where
-  pub low : 1 ≤ k
-  pub high : k ≤ mostSteps
-
--- there is a cell for step k and node t
-pub record HasCell (cells : List ℕ) (t k : ℕ) : Type 0 where
-  pub full : Whole cells
-  pub node : t ≤ mostNodes
-  pub number : StepNumber k
-
--- noted afterwards: what was noted before and, where it is so, that step k holds below node t
-pub record NotedToo (before after : List ℕ) (t k : ℕ) (so : Bool) : Type 0 where
-  pub full : Whole after
-  pub notes : (t' k' : ℕ) → StepNumber k' → noted after t' k' ≡ (noted before t' k' || (eqb t t' && (eqb k k' && so)))
-
--- a list of zeros has nothing else, nor behind its end
-all-zero : (n i : ℕ) → getD {A = ℕ} (replicate n 0) i 0 ≡ 0
-all-zero zero i = refl
+-- no word of zeros has any step, nor any behind their end
+all-zero : (n t : ℕ) → getD {A = ℕ} (replicate n 0) t 0 ≡ 0
+all-zero zero t = refl
 all-zero (suc n) zero = refl
-all-zero (suc n) (suc i) = all-zero n i
+all-zero (suc n) (suc t) = all-zero n t
 
 -- before anything is noted nothing is
-pub blank-whole : Whole blank
-blank-whole = length-replicate {A = ℕ} cellCount 0
+pub blank-noted : (n t k : ℕ) → noted (replicate n 0) t k ≡ false
+unfolding noted hasStep
+blank-noted n t zero = refl
+blank-noted n t (suc i) = ap (λ (w : ℕ). isMember w i) (all-zero n t) ∙ member-none i
 
-pub blank-noted : (t k : ℕ) → noted blank t k ≡ false
+-- a word takes the steps of another
+pub steps-or : (a b k : ℕ) → hasStep (bitOr a b) k ≡ (hasStep a k || hasStep b k)
+unfolding hasStep
+steps-or a b zero = refl
+steps-or a b (suc i) = member-or a b i
+
+-- noted afterwards, where the word of node t takes the steps of another: what was noted before, and below t those steps
+pub noted-too : (words : List ℕ) (t w : ℕ) → t < length words → (t' k : ℕ)
+    → noted (set words t (bitOr (getD words t 0) w)) t' k ≡ (noted words t' k || (eqb t t' && hasStep w k))
 unfolding noted
-blank-noted t k = ap (λ v. eqb v 1) (all-zero cellCount (mostSteps * t + k))
-
-module _ (cells : List ℕ) (t k : ℕ) (has : HasCell cells t k) where
-  -- one cell is set where it is so
-  pub noted-here : NotedToo cells (set cells (mostSteps * t + k) 1) t k true
-  unfolding noted
-  noted-here = record { full = length-set cells (mostSteps * t + k) 1 ∙ has .full; notes = λ t' k' n. go t' k' n (eqb t t') refl (eqb k k') refl }
-    where
-      other : (t' k' : ℕ) → (mostSteps * t' + k' ≡ mostSteps * t + k → ⊥) → noted (set cells (mostSteps * t + k) 1) t' k' ≡ (noted cells t' k' || false)
-      other t' k' h = ap (λ v. eqb v 1) (getD-set-other cells (mostSteps * t + k) (mostSteps * t' + k') 1 0 h) ∙ sym (or-false (noted cells t' k'))
-
-      go : (t' k' : ℕ) → StepNumber k' → (a : Bool) → eqb t t' ≡ a → (b : Bool) → eqb k k' ≡ b
-          → noted (set cells (mostSteps * t + k) 1) t' k' ≡ (noted cells t' k' || (a && (b && true)))
-      go t' k' n true e true f =
-          let at : mostSteps * t' + k' ≡ mostSteps * t + k = omega (arith, eqb-true t t' e, eqb-true k k' f) in
-          let in-cells : mostSteps * t + k < length cells = omega (arith, has .full, has .node, has .number .high) in
-          rw (at, getD-set-same cells (mostSteps * t + k) 1 0 in-cells, or-true)
-      go t' k' n true e false f = other t' k' (λ h. eqb-false k k' f (omega (arith, eqb-true t t' e, has .number .high)))
-      go t' k' n false e true f = other t' k' (λ h. eqb-false t t' e (omega (arith, eqb-true k k' f, has .number .high)))
-      go t' k' n false e false f = other t' k' (λ h. eqb-false t t' e (omega (arith, has .number .low, has .number .high)))
-
-  -- no cell is set where it is not
-  pub noted-nothing : NotedToo cells cells t k false
-  noted-nothing = record { full = has .full; notes = λ t' k' n. go (noted cells t' k') (eqb t t') (eqb k k') }
-    where
-      go : (c a b : Bool) → c ≡ (c || (a && (b && false)))
-      go c true true = sym (or-false c)
-      go c true false = sym (or-false c)
-      go c false b = sym (or-false c)
+noted-too words t w h t' k = go (eqb t t') refl
+  where
+    go : (b : Bool) → eqb t t' ≡ b → hasStep (getD (set words t (bitOr (getD words t 0) w)) t' 0) k ≡ (hasStep (getD words t' 0) k || (b && hasStep w k))
+    go true e =
+        let here : t ≡ t' = eqb-true t t' e in
+        rw (← here) (ap (λ (v : ℕ). hasStep v k) (getD-set-same words t (bitOr (getD words t 0) w) 0 h) ∙ steps-or (getD words t 0) w k)
+    go false e =
+        ap (λ (v : ℕ). hasStep v k) (getD-set-other words t t' (bitOr (getD words t 0) w) 0 (λ s. eqb-false t t' e (sym s)))
+        ∙ sym (or-false (hasStep (getD words t' 0) k))

@@ -1,110 +1,28 @@
-// Whether a document satisfies a pattern, by a table of notes: for each step and node, whether the step holds below the
-// node. The nodes go from the last to the first, and each gives to its parent.
+// Whether a document satisfies a pattern, by notes: for each node, and for the top, a word with the steps that hold
+// below it. The nodes go from the last to the first, and each gives to its parent.
+mod masks; // masks.rt: a pattern as words
+mod turn; // turn.rt: what a node gives to its parent
+
+use crate::masks::masks_of;
+use crate::turn::has_all;
+use crate::turn::turn;
 use meaning::MOST_NODES;
 use meaning::MOST_STEPS;
-use meaning::Step;
 use shapes::Pattern;
 ghost use Prim.Native.Nat.{_+_, _*_, _<_, _≤_, _^_};
 ghost use mathlib.Core.Path.{_≡_};
-ghost use mathlib.Core.Bool.{true};
-ghost use lib.Dec.{eqb};
-ghost use lib.ListN.{length, getD, set};
-ghost use Rattle.base.specs.Choice.{pick};
-ghost use Rattle.meaning.specs.Numbers.{mostNodes, mostSteps};
+ghost use lib.ListN.{length, getD};
+ghost use Rattle.meaning.specs.Numbers.{mostNodes};
 ghost use Rattle.meaning.specs.Satisfying.{parentsOf, satisfies};
-ghost use Rattle.shapes.specs.Shapes.{stepsIn, patternOf, nodesAt, WellFormed};
+ghost use Rattle.shapes.specs.Shapes.{patternOf, nodesAt, WellFormed};
 ghost use Rattle.laws.specs.Rising.{Rising};
-ghost use Rattle.matching.specs.NodeNotes.{Whole, noted, HasCell, NotedToo};
-ghost use Rattle.matching.specs.Giving.{fits, givesUp, kidsHold, MayWeigh, Weighed};
-ghost use Rattle.matching.specs.Going.{Gave};
-ghost use Rattle.matching.specs.Filled.{Filled};
+ghost use Rattle.matching.specs.Turns.{lent};
+ghost use Rattle.matching.specs.Document.{filled, TopWord};
 
-// A cell for each step at each node and at the top; cell 0 is not used.
-const CELLS: usize = MOST_STEPS * (MOST_NODES + 1) + 1;
+// So many words are enough for a document of fewer nodes, and sooner cleared than those of any document.
+const FEW_WORDS: usize = 64;
 
-// Is it noted that step k holds below node t?
-fn holds(cells: &[u8; CELLS], t: usize, k: usize) -> bool
-    requires { ⌜ HasCell (now cells) t k ⌝ }
-    ensures { λ r. ⌜ r ≡ noted (now (cells .entry)) t k ⌝ }
-{
-    cells[MOST_STEPS * t + k] == 1
-}
-
-// Notes, where it is so, that step k holds below node t.
-fn note(cells: &mut [u8; CELLS], t: usize, k: usize, so: bool)
-    requires { ⌜ HasCell (now cells) t k ⌝ }
-    ensures { λ r. ⌜ NotedToo (now (cells .entry)) (now (cells .exit)) t k so ⌝ }
-{
-    if so {
-        cells[MOST_STEPS * t + k] = 1;
-    }
-}
-
-// Does a node with this label fit step s, whose child steps hold below the node or not?
-fn fits(s: Step, label: u8, kids_hold: bool) -> bool
-    ensures { λ r. ⌜ r ≡ fits s label «kids_hold» ⌝ }
-{
-    if !kids_hold {
-        return false;
-    }
-    s.label == 0 || s.label == label
-}
-
-// Does a node with this label give step s to its parent? Step s holds below the node or not.
-fn gives(s: Step, label: u8, kids_hold: bool, below: bool) -> bool
-    ensures { λ r. ⌜ r ≡ givesUp s label «kids_hold» below ⌝ }
-{
-    if s.axis == 0 {
-        return fits(s, label, kids_hold);
-    }
-    if below {
-        return true;
-    }
-    fits(s, label, kids_hold)
-}
-
-// A step that lacks a child step that holds: noted where that is so.
-fn lack(lacks: &mut [u8; MOST_STEPS + 1], q: usize, holds: bool)
-    requires { ⌜ (length (now lacks) ≡ mostSteps + 1) × (q ≤ mostSteps) ⌝ }
-    ensures { λ r. ⌜ now (lacks .exit) ≡ pick holds (now (lacks .entry)) (set (now (lacks .entry)) q 1) ⌝ }
-{
-    if !holds {
-        lacks[q] = 1;
-    }
-}
-
-// Asks step s, numbered k, at node u with this label, whose parent is node up.
-fn weigh(
-    cells: &mut [u8; CELLS],
-    lacks: &mut [u8; MOST_STEPS + 1],
-    s: Step,
-    k: usize,
-    u: usize,
-    up: usize,
-    label: u8,
-)
-    requires { ⌜ MayWeigh (now cells) (now lacks) s k u up ⌝ }
-    ensures { λ r. ⌜ Weighed (now (cells .entry)) (now (lacks .entry)) (now (cells .exit)) (now (lacks .exit)) s k u up label ⌝ }
-{
-    let below = holds(cells, u, k);
-    let kids_hold = lacks[k] == 0;
-    lack(lacks, s.parent as usize, below);
-    note(cells, up, k, gives(s, label, kids_hold, below));
-}
-
-// The turn of node u with this label, whose parent is node up: the steps go from the last to the first.
-fn give(cells: &mut [u8; CELLS], p: Pattern, u: usize, up: usize, label: u8)
-    requires { ⌜ WellFormed p × Whole (now cells) × (u ≤ mostNodes) × (up ≤ mostNodes) ⌝ }
-    ensures { λ r. ⌜ Gave (now (cells .entry)) (now (cells .exit)) (stepsIn p) u up label ⌝ }
-{
-    let mut lacks: [u8; MOST_STEPS + 1] = [0; MOST_STEPS + 1];
-    let mut k = p.count;
-    while k > 0 {
-        let s = p.steps[k - 1];
-        weigh(cells, &mut lacks, s, k, u, up, label);
-        k -= 1;
-    }
-}
+const SOME_WORDS: usize = 256;
 
 // The number of two bytes at a place, the low byte first.
 fn two_bytes(d: &[u8], a: usize) -> usize
@@ -115,43 +33,75 @@ fn two_bytes(d: &[u8], a: usize) -> usize
 }
 
 // Fills the notes of a document of n nodes, from the last to the first.
-fn fill(cells: &mut [u8; CELLS], d: &[u8], at: usize, n: usize, p: Pattern)
-    requires { ⌜ WellFormed p × (n ≤ mostNodes) × (at + 3 * n ≤ length (now d)) × Rising (parentsOf (nodesAt (now d) at n))
-        × Filled (nodesAt (now d) at n) (stepsIn p) n (now cells) ⌝ }
-    ensures { λ r. ⌜ Filled (nodesAt (now (d .entry)) at n) (stepsIn p) 0 (now (cells .exit)) ⌝ }
+fn fill<'a>(
+    words: &mut [u16],
+    d: &[u8],
+    at: usize,
+    n: usize,
+    children: &'a [u16; MOST_STEPS + 1],
+    labels: &'a [u16; MOST_STEPS],
+    cares: &'a [u16; MOST_STEPS],
+    own: &'a [u16; MOST_STEPS],
+    far: u16,
+)
+    requires { ⌜ (n ≤ mostNodes) × (n < length (now words)) × (at + 3 * n ≤ length (now d))
+        × Rising (parentsOf (nodesAt (now d) at n)) ⌝ }
+    ensures { λ r. ⌜ now (words .exit)
+        ≡ filled (lent (now (children .entry)) (now (labels .entry)) (now (cares .entry)) (now (own .entry)) far) (now (d .entry)) at n (now (words .entry)) ⌝ }
 {
+    // Copies of its own, which no write to a word can touch: so the compiler keeps them in registers.
+    let children_here = *children;
+    let labels_here = *labels;
+    let cares_here = *cares;
+    let own_here = *own;
     let mut u = n;
     while u > 0 {
         let a = at + 3 * (u - 1);
-        give(cells, p, u, two_bytes(d, a), d[a + 2]);
+        let up = two_bytes(d, a);
+        let label = d[a + 2] as u16;
+        turn(
+            words,
+            &children_here,
+            &labels_here,
+            &cares_here,
+            &own_here,
+            far,
+            u,
+            up,
+            label,
+        );
         u -= 1;
     }
 }
 
-// Does step s, numbered k, hold below the top, if it is a root step?
-fn at_top(cells: &[u8; CELLS], s: Step, k: usize) -> bool
-    requires { ⌜ HasCell (now cells) 0 k ⌝ }
-    ensures { λ r. ⌜ r ≡ pick (eqb (s .parent) 0) (noted (now (cells .entry)) 0 k) true ⌝ }
+// The top's word when all nodes have had their turn.
+fn word_at_top<'a>(
+    d: &[u8],
+    at: usize,
+    n: usize,
+    children: &'a [u16; MOST_STEPS + 1],
+    labels: &'a [u16; MOST_STEPS],
+    cares: &'a [u16; MOST_STEPS],
+    own: &'a [u16; MOST_STEPS],
+    far: u16,
+) -> u16
+    requires { ⌜ (n ≤ mostNodes) × (at + 3 * n ≤ length (now d))
+        × Rising (parentsOf (nodesAt (now d) at n)) ⌝ }
+    ensures { λ r. ⌜ TopWord (lent (now (children .entry)) (now (labels .entry)) (now (cares .entry)) (now (own .entry)) far) (now (d .entry)) at n r ⌝ }
 {
-    if s.parent != 0 {
-        return true;
+    if n < FEW_WORDS {
+        let mut words: [u16; FEW_WORDS] = [0; FEW_WORDS];
+        fill(&mut words, d, at, n, children, labels, cares, own, far);
+        return words[0];
     }
-    holds(cells, 0, k)
-}
-
-// Do all root steps hold below the top?
-fn all_at_top(cells: &[u8; CELLS], p: Pattern) -> bool
-    requires { ⌜ WellFormed p × Whole (now cells) ⌝ }
-    ensures { λ r. ⌜ r ≡ kidsHold (noted (now (cells .entry)) 0) 0 1 (stepsIn p) ⌝ }
-{
-    let mut j = 0;
-    while j < p.count {
-        if !at_top(cells, p.steps[j], j + 1) {
-            return false;
-        }
-        j += 1;
+    if n < SOME_WORDS {
+        let mut words: [u16; SOME_WORDS] = [0; SOME_WORDS];
+        fill(&mut words, d, at, n, children, labels, cares, own, far);
+        return words[0];
     }
-    true
+    let mut words: [u16; MOST_NODES + 1] = [0; MOST_NODES + 1];
+    fill(&mut words, d, at, n, children, labels, cares, own, far);
+    words[0]
 }
 
 // Does the document whose n nodes stand in the bytes from a place on satisfy the pattern?
@@ -159,9 +109,10 @@ pub fn matches(d: &[u8], at: usize, n: usize, p: Pattern) -> bool
     requires { ⌜ WellFormed p × (n ≤ mostNodes) × (at + 3 * n ≤ length (now d)) × Rising (parentsOf (nodesAt (now d) at n)) ⌝ }
     ensures { λ r. ⌜ r ≡ satisfies (nodesAt (now (d .entry)) at n) (patternOf p) ⌝ }
 {
-    let mut cells: [u8; CELLS] = [0; CELLS];
-    fill(&mut cells, d, at, n, p);
-    all_at_top(&cells, p)
+    let m = masks_of(p);
+    let far = m.far;
+    let word = word_at_top(d, at, n, &m.children, &m.labels, &m.cares, &m.own, far);
+    has_all(word, m.children[0])
 }
 
 // One pattern was asked of one document: the answer, and how many have been asked with it.

@@ -1,38 +1,55 @@
--- `matching::fill` meets its contract: when the nodes above u are done the notes are `Filled` so far; u falls by one.
-use Prim.Native.Nat.{_-_, _≤_}
-use mathlib.Core.Path.{_≡_, refl}
+-- `matching::fill` meets its contract: what is left, when the nodes above u have had their turns, gives what all give; u falls by one.
+use Prim.Native.Nat.{_+_, _*_, _-_, _≤_}
+use mathlib.Core.Path.{_≡_, refl, ap, _∙_}
 use native.Mathlib.Omega.{arith}
-use Rattle.shapes.specs.Shapes.{stepsIn, nodesAt}
-use Rattle.matching.specs.Filled.{Filled}
-use Rattle.matching.specs.Document.{parent-lower, notes-go-on}
+use lib.ListN.{length}
+use Rattle.matching.specs.Document.{filled, filled-goes-on, parent-lower}
+use Rattle.matching.specs.Turns.{lent, length-turned}
 use Rattle.matching.proofs.fill.Statement.{statement}
 use Rattle.matching.proofs.fill.Tie as tie
 
 abbrev Inv-loop : tie.InvT-loop
-Inv-loop cells₀ d at n p u₀ cells u = (u ≤ n) × Filled (nodesAt d at n) (stepsIn p) u cells
+Inv-loop words₀ d at n children labels cares own far children-here labels-here cares-here own-here u₀ words u =
+    let m = lent children labels cares own far in
+    (u ≤ n) × (length words ≡ length words₀) × (filled m d at u words ≡ filled m d at n words₀)
 
 abbrev μ-loop : tie.MeasureT-loop
-μ-loop cells₀ d at n p u₀ cells u = u
+μ-loop words₀ d at n children labels cares own far children-here labels-here cares-here own-here u₀ words u = u
 
 loop-holds : tie.Need-loop-holds Inv-loop μ-loop
-loop-holds c = (omega arith, c .before .pre .4)
+loop-holds c = (omega arith, refl, refl)
 
-give-requires : tie.Need-give-requires Inv-loop μ-loop
-give-requires c κs =
-    let l = c .before .before .before .before in
-    let pre = l .before .before .pre in
-    let up = parent-lower _ _ _ _ (pre .0) (pre .3) (l .loop .u - 1) (omega arith) in
-    (pre .0, l .loop .inv .1 .full, omega arith, omega (arith, c .before .two-bytes .ensures))
+cast-label : tie.Need-cast-label Inv-loop μ-loop
+cast-label c =
+    let l = c .before .before .before in
+    let start = l .before .before .before .before .before .before .before in
+    omega (arith, c .shared-slice-known2 .given (start .args .at + 3 * (l .loop .u - 1) + 2))
+
+turn-requires : tie.Need-turn-requires Inv-loop μ-loop
+turn-requires c κs =
+    let l = c .before .before .before .before .before .before .before .before in
+    let start = l .before .before .before .before .before .before .before in
+    let up = parent-lower _ _ _ (start .pre .3) (l .loop .u - 1) (omega arith) in
+    (omega arith, omega (arith, c .before .before .before .before .before .before .two-bytes .ensures))
 
 loop-again : tie.Need-loop-again Inv-loop μ-loop
 loop-again c =
-    let l = c .before .before .before .before .before in
-    let pre = l .before .before .pre in
-    let up = c .before .before .two-bytes .ensures in
-    (omega arith, notes-go-on _ _ _ _ (pre .0) (pre .3) (l .loop .u - 1) (omega arith) (l .loop .inv .0) up refl (l .loop .inv .1) (c .give .ensures))
+    let l = c .before .before .before .before .before .before .before .before .before .before .before in
+    let turned = c .before .before .turn .ensures in
+    let up = c .before .before .before .before .before .before .before .before .before .two-bytes .ensures in (
+      omega arith,
+      ap length turned ∙ length-turned _ _ _ _ _ ∙ l .loop .inv .1,
+      filled-goes-on _ _ _ _ (l .loop .u - 1) (omega arith) up refl turned (l .loop .inv .2),
+    )
+
+same-length : tie.Need-same-length Inv-loop μ-loop
+same-length c = c .before .loop .inv .1
 
 returns : tie.Need-returns Inv-loop μ-loop
-returns c = let none : c .before .loop .u ≡ 0 = omega arith in rw none at (c .before .loop .inv .1)
+unfolding filled
+returns c =
+    let none : c .before .loop .u ≡ 0 = omega arith in
+    rw none at (c .before .loop .inv .2)
 
 pub fill-spec : {M : Type 1} → statement M
 fill-spec =
@@ -42,7 +59,9 @@ fill-spec =
     μ-loop
     loop-holds
     (λ c. omega arith) (λ c. omega arith) (λ c. omega arith) (λ c κs. omega arith) (λ c. omega arith) (λ c. omega arith)
-    give-requires
+    cast-label
+    turn-requires
     (λ c. omega arith) (λ c. omega arith)
     loop-again
+    same-length
     returns)
