@@ -16,7 +16,7 @@ use Rattle.laws.specs.ReadNumbers.{Bytes}
 use Rattle.matching.specs.declared.masks.Masks.{Masks}
 use Rattle.matching.specs.NodeNotes.{noted}
 use Rattle.matching.specs.Masks.{MasksOf}
-use Rattle.matching.specs.Turns.{turned}
+use Rattle.matching.specs.NodeTurns.{turned}
 use Rattle.matching.specs.GivenBits.{kids-in-word}
 use Rattle.matching.specs.Gave.{turn-gives}
 use Rattle.matching.specs.Filled.{Filled}

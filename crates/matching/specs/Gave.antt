@@ -14,7 +14,7 @@ use Rattle.matching.specs.declared.masks.Masks.{Masks}
 use Rattle.matching.specs.NodeNotes.{noted, hasStep, StepNumber, noted-too}
 use Rattle.matching.specs.Giving.{givesAt}
 use Rattle.matching.specs.Masks.{MasksOf}
-use Rattle.matching.specs.Turns.{given, turned, length-turned}
+use Rattle.matching.specs.NodeTurns.{given, turned, length-turned}
 use Rattle.matching.specs.GivenBits.{given-step, kids-in-word}
 
 -- after the turn of node u, whose parent is up: what was noted before, and below the parent what the node gives

@@ -28,7 +28,7 @@ use Rattle.matching.specs.declared.masks.Masks.{Masks}
 use Rattle.matching.specs.NodeNotes.{hasStep, StepNumber}
 use Rattle.matching.specs.Giving.{fits, givesUp, kidsHold, kids-each, kids-all}
 use Rattle.matching.specs.Masks.{caresFor, childOf, farAt, labelAt, caresAt, ownBit, MasksOf}
-use Rattle.matching.specs.Turns.{oneGiven, withGiven, given}
+use Rattle.matching.specs.NodeTurns.{oneGiven, withGiven, given}
 
 -- where the label is any no bit of a node's label matters, so every one fits; otherwise all eight do
 label-fits : (l label : ℕ) → label < 256 → eqb l (bitAnd label (caresFor l)) ≡ anyOrSame l label

@@ -1,7 +1,7 @@
 pub mod NodeNotes
 pub mod Giving
 pub mod Masks
-pub mod Turns
+pub mod NodeTurns
 pub mod GivenBits
 pub mod Gave
 pub mod Nodes

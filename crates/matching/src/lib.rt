@@ -16,7 +16,7 @@ ghost use Rattle.meaning.specs.Numbers.{mostNodes};
 ghost use Rattle.meaning.specs.Satisfying.{parentsOf, satisfies};
 ghost use Rattle.shapes.specs.Shapes.{patternOf, nodesAt, WellFormed};
 ghost use Rattle.laws.specs.Rising.{Rising};
-ghost use Rattle.matching.specs.Turns.{lent};
+ghost use Rattle.matching.specs.NodeTurns.{lent};
 ghost use Rattle.matching.specs.Document.{filled, TopWord};
 
 // So many words are enough for a document of fewer nodes, and sooner cleared than those of any document.

@@ -6,7 +6,7 @@ ghost use mathlib.Core.Bool.{_&&_};
 ghost use lib.ListN.{length};
 ghost use Rattle.base.specs.Choice.{pick};
 ghost use Rattle.laws.specs.HasAll.{hasAll};
-ghost use Rattle.matching.specs.Turns.{lent, given, turned};
+ghost use Rattle.matching.specs.NodeTurns.{lent, given, turned};
 
 // Does the word have all bits of the mask?
 pub fn has_all(word: u16, mask: u16) -> bool

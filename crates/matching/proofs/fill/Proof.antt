@@ -1,10 +1,10 @@
 -- `matching::fill` meets its contract: what is left, when the nodes above u have had their turns, gives what all give; u falls by one.
 use Prim.Native.Nat.{_+_, _*_, _-_, _≤_}
-use mathlib.Core.Path.{_≡_, refl, ap, _∙_}
+use mathlib.Core.Path.{_≡_, refl}
 use native.Mathlib.Omega.{arith}
 use lib.ListN.{length}
 use Rattle.matching.specs.Document.{filled, filled-goes-on, parent-lower}
-use Rattle.matching.specs.Turns.{lent, length-turned}
+use Rattle.matching.specs.NodeTurns.{lent, length-kept}
 use Rattle.matching.proofs.fill.Statement.{statement}
 use Rattle.matching.proofs.fill.Tie as tie
 
@@ -36,11 +36,11 @@ loop-again : tie.Need-loop-again Inv-loop μ-loop
 loop-again c =
     let l = c .before .before .before .before .before .before .before .before .before .before .before in
     let turned = c .before .before .turn .ensures in
-    let up = c .before .before .before .before .before .before .before .before .before .two-bytes .ensures in (
-      omega arith,
-      ap length turned ∙ length-turned _ _ _ _ _ ∙ l .loop .inv .1,
-      filled-goes-on _ _ _ _ (l .loop .u - 1) (omega arith) up refl turned (l .loop .inv .2),
-    )
+    let up = c .before .before .before .before .before .before .before .before .before .two-bytes .ensures in
+    let a = l .before .before .before .before .before .before .before .args in
+    let m = lent (a .children .now) (a .labels .now) (a .cares .now) (a .own .now) (a .far) in
+    let kept = length-kept m _ _ _ _ turned (l .loop .inv .1) in
+    (omega arith, kept, filled-goes-on m _ _ _ (l .loop .u - 1) (omega arith) up refl turned (l .loop .inv .2))
 
 same-length : tie.Need-same-length Inv-loop μ-loop
 same-length c = c .before .loop .inv .1

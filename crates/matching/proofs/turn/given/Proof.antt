@@ -6,7 +6,7 @@ use borrow.Author.Needs.{needs}
 use Rattle.base.specs.Loops.{foldN}
 use Rattle.base.specs.Along.{foldN-goes-on, foldN-ends}
 use Rattle.meaning.specs.Numbers.{mostSteps}
-use Rattle.matching.specs.Turns.{lent, oneGiven, withGiven, given}
+use Rattle.matching.specs.NodeTurns.{lent, oneGiven, withGiven, given}
 use Rattle.matching.proofs.turn.given.Statement.{statement}
 use Rattle.matching.proofs.turn.given.Tie as tie
 

@@ -1,6 +1,6 @@
 -- `matching::turn::turn` meets its contract: the parent's word takes what the node gives.
 use borrow.Author.Needs.{needs}
-use Rattle.matching.specs.Turns.{turned}
+use Rattle.matching.specs.NodeTurns.{turned}
 use Rattle.matching.proofs.turn.turn.Statement.{statement}
 use Rattle.matching.proofs.turn.turn.Tie as tie
 

@@ -1,6 +1,6 @@
 -- A node's turn, as the code makes it: one word from sixteen steps, and the parent's word takes it.
 use Prim.Native.Nat.{ℕ, _+_}
-use mathlib.Core.Path.{_≡_}
+use mathlib.Core.Path.{_≡_, ap, _∙_}
 use mathlib.Core.Bool.{_&&_}
 use mathlib.Core.List.{List}
 use lib.Bits.{bitAnd, bitOr}
@@ -37,3 +37,7 @@ module _ (m : Masks) where
   pub length-turned : (words : List ℕ) (u up label : ℕ) → length (turned words u up label) ≡ length words
   unfolding turned
   length-turned words u up label = length-set words up _
+
+  -- so of what a turn leaves
+  pub length-kept : {words' : List ℕ} {n : ℕ} (words : List ℕ) (u up label : ℕ) → words' ≡ turned words u up label → length words ≡ n → length words' ≡ n
+  length-kept words u up label e l = ap length e ∙ length-turned words u up label ∙ l
