@@ -1,3 +1,4 @@
+pub mod Lent
 pub mod Plain
 pub mod ThreeJudged
 pub mod Tabling

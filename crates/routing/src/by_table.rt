@@ -1,12 +1,12 @@
 // The route by a table: its entries are tried, and the members of each that matches.
 use matching::Tried;
 use matching::try_pattern;
+use meaning::MOST_ENTRIES;
+use meaning::MOST_PATTERNS;
 use members::is_member;
 use members::mark;
 use shapes::Entry;
-use subscriptions::Subscriptions;
 use subscriptions::pattern_at;
-use tables::Entries;
 use tables::entry_at;
 ghost use mathlib.Core.Path.{_≡_};
 ghost use Prim.Native.Nat.{_^_, _<_};
@@ -19,6 +19,7 @@ ghost use Rattle.subscriptions.specs.Subscribed.{SubscriptionsStand};
 ghost use Rattle.tables.specs.TableSection.{tableAt};
 ghost use Rattle.tables.specs.TableJudged.{EntriesStand};
 ghost use Rattle.documents.specs.DocumentJudged.{NodesStand};
+ghost use Rattle.routing.specs.Lent.{subscribed, entered};
 ghost use Rattle.routing.specs.Tabling.{memberTry, memberTried, askMembers, askEntry, routeBy};
 
 // A route so far: the delivery set, and how many patterns were tried.
@@ -76,20 +77,21 @@ fn ask_member(
 // All members are tried.
 fn ask_members(
     s: &[u8],
-    subscriptions: Subscriptions,
+    places: &[usize; MOST_PATTERNS],
+    count: usize,
     d: &[u8],
     at: usize,
     n: usize,
     members: u64,
     route: Route,
 ) -> Route
-    requires { ⌜ SubscriptionsStand (now s) subscriptions × NodesStand (now d) at n × (route .tried < 2 ^ 31) ⌝ }
+    requires { ⌜ SubscriptionsStand (now s) (subscribed count (now places)) × NodesStand (now d) at n × (route .tried < 2 ^ 31) ⌝ }
     ensures { λ r. ⌜ r ≡ askMembers (nodesAt (now (d .entry)) at n) (sheetAt (now (s .entry)) .patterns) members route ⌝ }
 {
     let mut so_far = route;
     let mut i = 0;
-    while i < subscriptions.count {
-        let x = subscriptions.places[i];
+    while i < count {
+        let x = places[i];
         so_far = ask_member(s, x, d, at, n, members, i, so_far);
         i += 1;
     }
@@ -99,14 +101,15 @@ fn ask_members(
 // An entry is tried, and all its members if it matches.
 fn ask_entry(
     s: &[u8],
-    subscriptions: Subscriptions,
+    places: &[usize; MOST_PATTERNS],
+    count: usize,
     d: &[u8],
     at: usize,
     n: usize,
     e: Entry,
     route: Route,
 ) -> Route
-    requires { ⌜ SubscriptionsStand (now s) subscriptions × NodesStand (now d) at n × WellFormed (e .pattern) × (route .tried < 2 ^ 30) ⌝ }
+    requires { ⌜ SubscriptionsStand (now s) (subscribed count (now places)) × NodesStand (now d) at n × WellFormed (e .pattern) × (route .tried < 2 ^ 30) ⌝ }
     ensures { λ r. ⌜ r ≡ askEntry (nodesAt (now (d .entry)) at n) (sheetAt (now (s .entry)) .patterns) (entryOf e) route ⌝ }
 {
     let asked = try_pattern(d, at, n, e.pattern, route.tried);
@@ -115,7 +118,7 @@ fn ask_entry(
         tried: asked.tried,
     };
     if asked.yes {
-        return ask_members(s, subscriptions, d, at, n, e.members, so_far);
+        return ask_members(s, places, count, d, at, n, e.members, so_far);
     }
     so_far
 }
@@ -123,21 +126,24 @@ fn ask_entry(
 // All entries are tried, and the members of each that matches.
 pub fn ask_entries(
     s: &[u8],
-    subscriptions: Subscriptions,
+    places: &[usize; MOST_PATTERNS],
+    count: usize,
     t: &[u8],
-    entries: Entries,
+    entry_places: &[usize; MOST_ENTRIES],
+    entry_count: usize,
     d: &[u8],
     at: usize,
     n: usize,
 ) -> Route
-    requires { ⌜ SubscriptionsStand (now s) subscriptions × EntriesStand (now t) entries × NodesStand (now d) at n ⌝ }
+    requires { ⌜ SubscriptionsStand (now s) (subscribed count (now places)) × EntriesStand (now t) (entered «entry_count» (now «entry_places»))
+        × NodesStand (now d) at n ⌝ }
     ensures { λ r. ⌜ r ≡ routeBy (nodesAt (now (d .entry)) at n) (sheetAt (now (s .entry)) .patterns) (tableAt (now (t .entry))) ⌝ }
 {
     let mut so_far = Route { set: 0, tried: 0 };
     let mut j = 0;
-    while j < entries.count {
-        let e = entry_at(t, entries.places[j]);
-        so_far = ask_entry(s, subscriptions, d, at, n, e, so_far);
+    while j < entry_count {
+        let e = entry_at(t, entry_places[j]);
+        so_far = ask_entry(s, places, count, d, at, n, e, so_far);
         j += 1;
     }
     so_far

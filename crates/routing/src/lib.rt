@@ -112,11 +112,17 @@ pub fn table_route(s: &[u8], t: &[u8], d: &[u8]) -> Tabled
 {
     match sheet_table_and_document(s, t, d) {
         Cur::At(x) => {
+            let subscriptions = subscriptions_in(s);
+            let count = subscriptions.count;
+            let entries = entries_in(t);
+            let entry_count = entries.count;
             let route = ask_entries(
                 s,
-                subscriptions_in(s),
+                &subscriptions.places,
+                count,
                 t,
-                entries_in(t),
+                &entries.places,
+                entry_count,
                 d,
                 node_place(d),
                 node_count(d),
@@ -136,11 +142,17 @@ fn seek(s: &[u8], t: &[u8], d: &[u8]) -> Sought
 {
     match sheet_table_and_document(s, t, d) {
         Cur::At(x) => {
+            let subscriptions = subscriptions_in(s);
+            let count = subscriptions.count;
+            let entries = entries_in(t);
+            let entry_count = entries.count;
             let asked = seek_entries(
                 s,
-                subscriptions_in(s),
+                &subscriptions.places,
+                count,
                 t,
-                entries_in(t),
+                &entries.places,
+                entry_count,
                 d,
                 node_place(d),
                 node_count(d),

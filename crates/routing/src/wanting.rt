@@ -2,9 +2,9 @@
 use crate::by_table::try_member;
 use matching::Tried;
 use matching::try_pattern;
+use meaning::MOST_ENTRIES;
+use meaning::MOST_PATTERNS;
 use shapes::Entry;
-use subscriptions::Subscriptions;
-use tables::Entries;
 use tables::entry_at;
 ghost use mathlib.Core.Path.{_≡_};
 ghost use mathlib.Core.Bool.{not};
@@ -17,25 +17,27 @@ ghost use Rattle.subscriptions.specs.Subscribed.{SubscriptionsStand};
 ghost use Rattle.tables.specs.TableSection.{tableAt};
 ghost use Rattle.tables.specs.TableJudged.{EntriesStand};
 ghost use Rattle.documents.specs.DocumentJudged.{NodesStand};
+ghost use Rattle.routing.specs.Lent.{subscribed, entered};
 ghost use Rattle.routing.specs.Wanting.{askInTurn};
 
 // Members are tried until one matches.
 fn seek_members(
     s: &[u8],
-    subscriptions: Subscriptions,
+    places: &[usize; MOST_PATTERNS],
+    count: usize,
     d: &[u8],
     at: usize,
     n: usize,
     members: u64,
     tried: usize,
 ) -> Tried
-    requires { ⌜ SubscriptionsStand (now s) subscriptions × NodesStand (now d) at n × (tried < 2 ^ 31) ⌝ }
+    requires { ⌜ SubscriptionsStand (now s) (subscribed count (now places)) × NodesStand (now d) at n × (tried < 2 ^ 31) ⌝ }
     ensures { λ r. ⌜ r ≡ askInTurn (membersSay (nodesAt (now (d .entry)) at n) (sheetAt (now (s .entry)) .patterns) members) tried ⌝ }
 {
     let mut so_far = tried;
     let mut i = 0;
-    while i < subscriptions.count {
-        let x = subscriptions.places[i];
+    while i < count {
+        let x = places[i];
         let asked = try_member(s, x, d, at, n, members, i, so_far);
         if asked.yes {
             return asked;
@@ -52,19 +54,20 @@ fn seek_members(
 // An entry is tried, and if it matches its members until one does. That the entry matches decides nothing.
 fn seek_entry(
     s: &[u8],
-    subscriptions: Subscriptions,
+    places: &[usize; MOST_PATTERNS],
+    count: usize,
     d: &[u8],
     at: usize,
     n: usize,
     e: Entry,
     tried: usize,
 ) -> Tried
-    requires { ⌜ SubscriptionsStand (now s) subscriptions × NodesStand (now d) at n × WellFormed (e .pattern) × (tried < 2 ^ 30) ⌝ }
+    requires { ⌜ SubscriptionsStand (now s) (subscribed count (now places)) × NodesStand (now d) at n × WellFormed (e .pattern) × (tried < 2 ^ 30) ⌝ }
     ensures { λ r. ⌜ r ≡ askInTurn (answerComes (nodesAt (now (d .entry)) at n) (sheetAt (now (s .entry)) .patterns) (entryOf e)) tried ⌝ }
 {
     let asked = try_pattern(d, at, n, e.pattern, tried);
     if asked.yes {
-        return seek_members(s, subscriptions, d, at, n, e.members, asked.tried);
+        return seek_members(s, places, count, d, at, n, e.members, asked.tried);
     }
     asked
 }
@@ -72,22 +75,25 @@ fn seek_entry(
 // Entries are tried until a member of one matches: whether one does, and how many patterns were tried.
 pub fn seek_entries(
     s: &[u8],
-    subscriptions: Subscriptions,
+    places: &[usize; MOST_PATTERNS],
+    count: usize,
     t: &[u8],
-    entries: Entries,
+    entry_places: &[usize; MOST_ENTRIES],
+    entry_count: usize,
     d: &[u8],
     at: usize,
     n: usize,
 ) -> Tried
-    requires { ⌜ SubscriptionsStand (now s) subscriptions × EntriesStand (now t) entries × NodesStand (now d) at n ⌝ }
+    requires { ⌜ SubscriptionsStand (now s) (subscribed count (now places)) × EntriesStand (now t) (entered «entry_count» (now «entry_places»))
+        × NodesStand (now d) at n ⌝ }
     ensures { λ r. ⌜ (r .yes ≡ not (eqb (tableRoute (nodesAt (now (d .entry)) at n) (tableAt (now (t .entry))) (sheetAt (now (s .entry)) .patterns)) 0))
         × (r .tried ≡ triedUntilWanted (nodesAt (now (d .entry)) at n) (tableAt (now (t .entry))) (sheetAt (now (s .entry)) .patterns)) ⌝ }
 {
     let mut so_far = 0;
     let mut j = 0;
-    while j < entries.count {
-        let e = entry_at(t, entries.places[j]);
-        let asked = seek_entry(s, subscriptions, d, at, n, e, so_far);
+    while j < entry_count {
+        let e = entry_at(t, entry_places[j]);
+        let asked = seek_entry(s, places, count, d, at, n, e, so_far);
         if asked.yes {
             return asked;
         }

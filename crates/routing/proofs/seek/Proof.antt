@@ -8,14 +8,14 @@ use Rattle.routing.proofs.seek.Tie as tie
 
 seek-entries-requires : tie.Need-seek-entries-requires
 seek-entries-requires c κs =
-    let x = c .before .before .before .before .before in
+    let x = c .before .before .before .before .before .before .before .before .before in
     let judged = sym (x .before .before .sheet-table-and-document .ensures) ∙ x .x .given .1 in
-    three-stand _ _ _ judged (c .before .before .before .subscriptions-in .ensures) (c .before .before .entries-in .ensures)
+    three-stand _ _ _ judged (c .before .before .before .before .before .before .before .subscriptions-in .ensures) (c .before .before .before .before .before .before .entries-in .ensures)
     (c .before .node-place .ensures .0) (c .node-count .ensures .0)
 
 returns : tie.Need-returns
 returns c =
-    let x = c .before .before .before .before .before .before in
+    let x = c .before .before .before .before .before .before .before .before .before .before in
     let judged = sym (x .before .before .sheet-table-and-document .ensures) ∙ x .x .given .1 in
     sought-told _ _ _ judged (c .before .before .node-place .ensures .0) (c .before .node-count .ensures .0)
     (c .seek-entries .ensures)
