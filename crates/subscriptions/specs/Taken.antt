@@ -1,22 +1,27 @@
 -- A pattern by value out of bytes, and where the subscriptions of a sheet stand: for any bytes and any place.
 use Prim.Native.Nat.{ℕ, _+_, _*_, _-_}
-use mathlib.Core.List.{List}
+use mathlib.Core.List.{List, _++_}
 use lib.Dec.{leb, ltb}
-use lib.ListN.{length, getD}
+use lib.ListN.{length, getD, drop}
 use Rattle.base.specs.Choice.{pick}
 use Rattle.base.specs.Standing.{standing}
 use Rattle.shapes.specs.Shapes.{noSteps}
 use Rattle.shapes.specs.declared.Pattern.{Pattern}
+use Rattle.meaning.specs.declared.Step.{Step}
 use Rattle.subscriptions.specs.declared.Subscriptions.{Subscriptions}
 use Rattle.reading.specs.SheetPlaces.{stepsAt, afterPattern, patternCountAt}
 use Rattle.meaning.specs.Numbers.{mostPatterns, mostSteps}
 
--- the pattern at x: its steps and, behind them, what follows in the bytes; none where the count or the bytes don't allow it
+-- the n steps from the place p on, and empty ones behind them, up to sixteen
+unfoldable pub stepsFilled : List ℕ → ℕ → ℕ → List Step
+stepsFilled s p n = stepsAt s p n ++ drop n (noSteps .steps)
+
+-- the pattern at x: its steps and no others; none where the count or the bytes don't allow it
 unfoldable pub patternAt : List ℕ → ℕ → Pattern
 patternAt s x =
     pick (ltb x (length s))
     (pick (leb (getD s x 0) mostSteps)
-    (pick (leb (3 * getD s x 0) (length s - (x + 1))) (record { count = getD s x 0; steps = stepsAt s (x + 1) mostSteps }) noSteps)
+    (pick (leb (3 * getD s x 0) (length s - (x + 1))) (record { count = getD s x 0; steps = stepsFilled s (x + 1) (getD s x 0) }) noSteps)
     noSteps)
     noSteps
 

@@ -4,28 +4,29 @@ use mathlib.Core.Path.{_≡_, sym, ap, _∙_}
 use mathlib.Core.List.{List}
 use lib.Dec.{leb, ltb}
 use lib.ListN.{length, getD, take, drop}
+use lib.Seq.{length-take-le, length-front, take-at}
 use native.Mathlib.Omega.{arith}
 use borrow.Author.Tests.{ltb-true, leb-true, le-leb, le-ltb}
 use Rattle.base.specs.Choice.{pick}
-use Rattle.base.specs.Standing.{placeAfter, take-standing, length-standing, getD-standing, run-at}
+use Rattle.base.specs.Standing.{placeAfter, length-standing, getD-standing, run-at}
 use Rattle.base.specs.declared.Cur.the-variants.{At}
 use Rattle.meaning.specs.Numbers.{countOutside, mostSteps, mostPatterns}
 use Rattle.meaning.specs.Reader.{read}
 use Rattle.meaning.specs.Forest.{Forest, none, forest, stepsOf}
 use Rattle.meaning.specs.Sections.{Sheet, sheet, pattern, steps}
-use Rattle.shapes.specs.Shapes.{stepsIn, patternOf, WellFormed}
+use Rattle.shapes.specs.Shapes.{stepsIn, patternOf, WellFormed, noSteps}
 use Rattle.laws.specs.JudgingGives.{steps-written}
 use Rattle.reading.specs.SheetPlaces.{stepAtPlace, afterStep, stepsAt, forestAt, afterPattern, forestsAt, patternCountAt, sheetAt}
 use Rattle.places.specs.Section.{section-read, section-is}
 use Rattle.reading.specs.SheetSection.{patternSection, sheetSection, patternPlace, patterns-stand}
 use Rattle.reading.specs.StepSection.{stepsSection}
 use Rattle.places.specs.Answer.{passed}
-use Rattle.subscriptions.specs.Taken.{patternAt, itself, patternPlaces, subscriptionCount, subscriptionsOf}
+use Rattle.subscriptions.specs.Taken.{stepsFilled, patternAt, itself, patternPlaces, subscriptionCount, subscriptionsOf}
 use Rattle.places.specs.InTurn.{eachPlace}
 
 module _ (s : List ℕ) (known x : ℕ) where
   -- a pattern that was judged at x is taken whole
-  taken-whole : (y : ℕ) → patternPlace s known x ≡ At y → patternAt s x ≡ record { count = getD s x 0; steps = stepsAt s (x + 1) mostSteps }
+  taken-whole : (y : ℕ) → patternPlace s known x ≡ At y → patternAt s x ≡ record { count = getD s x 0; steps = stepsFilled s (x + 1) (getD s x 0) }
   unfolding patternSection patternAt afterPattern pick
   taken-whole y h =
       let a = passed (ltb x (length s)) _ 1 y h in
@@ -35,29 +36,35 @@ module _ (s : List ℕ) (known x : ℕ) where
       let within : y ≤ length s = patternSection s known x .within y (omega arith) h in
       rw (a .0, b .0, le-leb (3 * getD s x 0) (length s - (x + 1)) (omega arith))
 
-  -- its steps that are there are those of the pattern
-  steps-there : getD s x 0 ≤ mostSteps → take (getD s x 0) (stepsAt s (x + 1) mostSteps) ≡ stepsAt s (x + 1) (getD s x 0)
+  -- as many steps stand there as were asked for
+  steps-counted : (n : ℕ) → length (stepsAt s (x + 1) n) ≡ n
   unfolding stepsAt
-  steps-there h = take-standing (stepAtPlace s) afterStep (x + 1) (getD s x 0) mostSteps h
+  steps-counted n = length-standing (stepAtPlace s) afterStep (x + 1) n
+
+  -- its steps that are there are those of the pattern
+  steps-there : (n : ℕ) → take n (stepsFilled s (x + 1) n) ≡ stepsAt s (x + 1) n
+  unfolding stepsFilled
+  steps-there n = take-at (stepsAt s (x + 1) n) (drop n (noSteps .steps)) n (steps-counted n)
 
   -- there is room for sixteen
-  steps-full : length (stepsAt s (x + 1) mostSteps) ≡ mostSteps
-  unfolding stepsAt
-  steps-full = length-standing (stepAtPlace s) afterStep (x + 1) mostSteps
+  steps-full : (n : ℕ) → n ≤ mostSteps → length (stepsFilled s (x + 1) n) ≡ mostSteps
+  unfolding stepsFilled noSteps
+  steps-full n h = length-front (noSteps .steps) (stepsAt s (x + 1) n) n (steps-counted n ∙ sym (length-take-le n (noSteps .steps) h))
 
   -- and it is the one that stands there, well formed
   pub taken-sound : (y : ℕ) → patternPlace s known x ≡ At y → (patternOf (patternAt s x) ≡ forestAt s x) × WellFormed (patternAt s x)
   unfolding patternOf stepsIn forestAt patternSection
   taken-sound y h =
+      let n = getD s x 0 in
       let a = passed (ltb x (length s)) _ 1 y h in
-      let b = passed (leb (getD s x 0) mostSteps) _ countOutside y (a .1) in
-      let few : getD s x 0 ≤ mostSteps = leb-true (getD s x 0) mostSteps (b .0) in
-      let were = section-read (stepsSection s known (x + 1) (getD s x 0)) y (b .1) in
-      let written : stepsOf (forest (stepsAt s (x + 1) (getD s x 0))) ≡ stepsAt s (x + 1) (getD s x 0) =
-      steps-written known (getD s x 0) (drop (x + 1) s) (drop y s) (stepsAt s (x + 1) (getD s x 0)) were in
+      let b = passed (leb n mostSteps) _ countOutside y (a .1) in
+      let few : n ≤ mostSteps = leb-true n mostSteps (b .0) in
+      let were = section-read (stepsSection s known (x + 1) n) y (b .1) in
+      let written : stepsOf (forest (stepsAt s (x + 1) n)) ≡ stepsAt s (x + 1) n =
+      steps-written known n (drop (x + 1) s) (drop y s) (stepsAt s (x + 1) n) were in
       rw (taken-whole y h) (
-        ap forest (steps-there few),
-        record { few = few; full = steps-full; written = rw (steps-there few) written },
+        ap forest (steps-there n),
+        record { few = few; full = steps-full n few; written = rw (steps-there n) written },
       )
 
 -- the pattern by value at a place where a pattern was read is that pattern, well formed

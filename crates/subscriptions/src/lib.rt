@@ -12,8 +12,8 @@ ghost use lib.ListN.{length};
 ghost use Rattle.meaning.specs.Numbers.{mostPatterns, mostSteps};
 ghost use Rattle.meaning.specs.Calls.{subscription};
 ghost use Rattle.shapes.specs.Shapes.{patternOf, WellFormed};
-ghost use Rattle.reading.specs.SheetPlaces.{stepAtPlace, stepsAt, afterPattern, sheetAt};
-ghost use Rattle.subscriptions.specs.Taken.{patternAt, patternPlaces, subscriptionsOf};
+ghost use Rattle.reading.specs.SheetPlaces.{stepAtPlace, afterPattern, sheetAt};
+ghost use Rattle.subscriptions.specs.Taken.{stepsFilled, patternAt, patternPlaces, subscriptionsOf};
 ghost use Rattle.subscriptions.specs.Subscribed.{SubscriptionsStand};
 
 // How many subscriptions a sheet has, and the place of each; behind those, the places go on in the same way.
@@ -24,23 +24,20 @@ pub struct Subscriptions {
 
 // The step at x.
 fn step_at(s: &[u8], x: usize) -> Step
-    requires { ⌜ x < 2 ^ 63 + 100 ⌝ }
+    requires { ⌜ x + 2 < length (now s) ⌝ }
     ensures { λ r. ⌜ r ≡ stepAtPlace (now (s .entry)) x ⌝ }
 {
-    let parent = byte_at(s, x) as u8;
-    let axis = byte_at(s, x + 1) as u8;
-    let label = byte_at(s, x + 2) as u8;
     Step {
-        parent,
-        axis,
-        label,
+        parent: s[x],
+        axis: s[x + 1],
+        label: s[x + 2],
     }
 }
 
-// The sixteen steps from the place p on.
-fn steps_at(s: &[u8], p: usize) -> [Step; MOST_STEPS]
-    requires { ⌜ p ≤ length (now s) ⌝ }
-    ensures { λ r. ⌜ r ≡ stepsAt (now (s .entry)) p mostSteps ⌝ }
+// The n steps from the place p on, and empty ones behind them.
+fn steps_at(s: &[u8], p: usize, n: usize) -> [Step; MOST_STEPS]
+    requires { ⌜ (n ≤ mostSteps) × (p + 3 * n ≤ length (now s)) ⌝ }
+    ensures { λ r. ⌜ r ≡ stepsFilled (now (s .entry)) p n ⌝ }
 {
     let mut steps = [Step {
         parent: 0,
@@ -49,7 +46,7 @@ fn steps_at(s: &[u8], p: usize) -> [Step; MOST_STEPS]
     }; MOST_STEPS];
     let mut i = 0;
     let mut x = p;
-    while i < MOST_STEPS {
+    while i < n {
         steps[i] = step_at(s, x);
         x += 3;
         i += 1;
@@ -64,7 +61,7 @@ pub fn pattern_at(s: &[u8], x: usize) -> Pattern
     if s.len() <= x {
         return no_steps();
     }
-    let n = byte_at(s, x);
+    let n = s[x] as usize;
     if MOST_STEPS < n {
         return no_steps();
     }
@@ -73,7 +70,7 @@ pub fn pattern_at(s: &[u8], x: usize) -> Pattern
     }
     Pattern {
         count: n,
-        steps: steps_at(s, x + 1),
+        steps: steps_at(s, x + 1, n),
     }
 }
 
