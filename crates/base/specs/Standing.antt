@@ -78,13 +78,6 @@ module _ {A : Type 0} (here : ℕ → A) (next : ℕ → ℕ) where
   length-standing p zero = refl
   length-standing p (suc n) = ap suc (length-standing (next p) n)
 
-  -- the first k of n
-  pub take-standing : (p k n : ℕ) → k ≤ n → take k (standing p n) ≡ standing p k
-  unfolding standing
-  take-standing p zero n h = refl
-  take-standing p (suc k) zero h = absurd (not-suc-le-zero h)
-  take-standing p (suc k) (suc n) h = ap (λ (l : List A). here p ∷ l) (take-standing (next p) k n (le-of-suc-le-suc h))
-
   -- the i-th of them stands at its place
   pub getD-standing : (p n i : ℕ) (d : A) → i < n → getD (standing p n) i d ≡ here (placeAfter next p i)
   unfolding standing placeAfter
