@@ -3,7 +3,9 @@ use base::Cur;
 use meaning::BYTES_REMAIN;
 ghost use mathlib.Core.Path.{_≡_};
 ghost use Prim.Native.Nat.{_<_};
+ghost use lib.Dec.{leb};
 ghost use lib.ListN.{getD};
+ghost use Rattle.base.specs.Choice.{pick};
 ghost use Rattle.places.specs.Bytes.{pairAt, endPlace};
 
 // The byte at a place, 0 past the end.
@@ -24,6 +26,16 @@ pub fn pair_at(s: &[u8], x: usize) -> usize
         return 0;
     }
     byte_at(s, x) + 256 * byte_at(s, x + 1)
+}
+
+// A count, or 0 where it is over its limit.
+pub fn within(n: usize, most: usize) -> usize
+    ensures { λ r. ⌜ r ≡ pick (leb n most) n 0 ⌝ }
+{
+    if n <= most {
+        return n;
+    }
+    0
 }
 
 // No byte remains.

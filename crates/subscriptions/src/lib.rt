@@ -4,6 +4,7 @@ use meaning::MOST_PATTERNS;
 use meaning::MOST_STEPS;
 use meaning::Step;
 use places::byte_at;
+use places::within;
 use shapes::Pattern;
 use shapes::no_steps;
 ghost use mathlib.Core.Path.{_≡_};
@@ -103,12 +104,9 @@ pub fn subscriptions_in(s: &[u8]) -> Subscriptions
     ensures { λ r. ⌜ r ≡ subscriptionsOf (now (s .entry)) ⌝ }
 {
     let x = after_labels(s, 1, byte_at(s, 0));
+    let count = within(byte_at(s, x), MOST_PATTERNS);
     let places = pattern_places(s, x + 1);
-    let n = byte_at(s, x);
-    if n <= MOST_PATTERNS {
-        return Subscriptions { count: n, places };
-    }
-    Subscriptions { count: 0, places }
+    Subscriptions { count, places }
 }
 
 // The pattern of subscription i.

@@ -7,6 +7,7 @@ use meaning::MOST_ENTRIES;
 use places::byte_at;
 use places::end;
 use places::pair_at;
+use places::within;
 use reading::patterns::pattern;
 use reading::sheet;
 use shapes::Entry;
@@ -145,10 +146,7 @@ fn entry_places(t: &[u8]) -> [usize; MOST_ENTRIES]
 pub fn entries_in(t: &[u8]) -> Entries
     ensures { λ r. ⌜ r ≡ tableEntries (now (t .entry)) ⌝ }
 {
+    let count = within(byte_at(t, 0), MOST_ENTRIES);
     let places = entry_places(t);
-    let n = byte_at(t, 0);
-    if n <= MOST_ENTRIES {
-        return Entries { count: n, places };
-    }
-    Entries { count: 0, places }
+    Entries { count, places }
 }
