@@ -3,14 +3,13 @@ use base::Cur;
 use covering::covers;
 use meaning::DONE;
 use meaning::MOST_ENTRIES;
+use meaning::MOST_PATTERNS;
 use meaning::NOT_FAIR;
 use members::is_member;
 use members::members_fit;
 use shapes::Pattern;
-use subscriptions::Subscriptions;
 use subscriptions::pattern_at;
 use subscriptions::subscriptions_in;
-use tables::Entries;
 use tables::entries_in;
 use tables::entry_at;
 use tables::members_at;
@@ -23,22 +22,23 @@ ghost use Rattle.meaning.specs.Fair.{entriesOf, oneThatCovers, eachInOne};
 ghost use Rattle.meaning.specs.Calls.{tableNumber};
 ghost use Rattle.shapes.specs.Shapes.{patternOf, entryOf, WellFormed};
 ghost use Rattle.reading.specs.SheetPlaces.{sheetAt};
+ghost use Rattle.subscriptions.specs.Taken.{subscriptionsOf};
 ghost use Rattle.subscriptions.specs.Subscribed.{SubscriptionsStand};
-ghost use Rattle.tables.specs.TableSection.{entryTaken, tableAt};
+ghost use Rattle.tables.specs.TableSection.{entryTaken, tableAt, tableEntries, entriesLent};
 ghost use Rattle.tables.specs.TableJudged.{EntriesStand};
 ghost use Rattle.fairness.specs.EntryMembers.{MembersStand};
 ghost use Rattle.fairness.specs.Weighing.{weighed};
-ghost use Rattle.fairness.specs.Each.{isFit};
+ghost use Rattle.fairness.specs.Each.{isFit, subscriptionsLent};
 ghost use Rattle.fairness.specs.FairJudged.{fairAt, fairPlace};
 
 // No entry is without members, and no member is outside the sheet, of n subscriptions.
-fn all_fit(t: &[u8], entries: Entries, n: usize) -> bool
-    requires { ⌜ EntriesStand (now t) entries × (n ≤ mostPatterns) ⌝ }
+fn all_fit(t: &[u8], count: usize, places: &[usize; MOST_ENTRIES], n: usize) -> bool
+    requires { ⌜ EntriesStand (now t) (entriesLent count (now places)) × (n ≤ mostPatterns) ⌝ }
     ensures { λ r. ⌜ r ≡ every (isFit n) (tableAt (now (t .entry))) ⌝ }
 {
     let mut j = 0;
-    while j < entries.count {
-        if !members_fit(members_at(t, entries.places[j]), n) {
+    while j < count {
+        if !members_fit(members_at(t, places[j]), n) {
             return false;
         }
         j += 1;
@@ -47,14 +47,14 @@ fn all_fit(t: &[u8], entries: Entries, n: usize) -> bool
 }
 
 // The members of every entry: each is asked for every subscription.
-fn members_in(t: &[u8], entries: Entries) -> [u64; MOST_ENTRIES]
-    requires { ⌜ entries .count ≤ mostEntries ⌝ }
-    ensures { λ r. ⌜ MembersStand (now (t .entry)) entries r ⌝ }
+fn members_in(t: &[u8], count: usize, places: &[usize; MOST_ENTRIES]) -> [u64; MOST_ENTRIES]
+    requires { ⌜ count ≤ mostEntries ⌝ }
+    ensures { λ r. ⌜ MembersStand (now (t .entry)) (entriesLent count (now (places .entry))) r ⌝ }
 {
     let mut members = [0; MOST_ENTRIES];
     let mut j = 0;
-    while j < entries.count {
-        members[j] = members_at(t, entries.places[j]);
+    while j < count {
+        members[j] = members_at(t, places[j]);
         j += 1;
     }
     members
@@ -80,14 +80,22 @@ fn weigh(t: &[u8], x: usize, members: u64, i: usize, p: Pattern, found: u8) -> u
 }
 
 // Is subscription i, whose pattern is p, in exactly one entry, and does that entry cover it?
-fn stands(t: &[u8], entries: Entries, members: [u64; MOST_ENTRIES], i: usize, p: Pattern) -> bool
-    requires { ⌜ EntriesStand (now t) entries × MembersStand (now t) entries members × (i < mostPatterns) × WellFormed p ⌝ }
+fn stands(
+    t: &[u8],
+    count: usize,
+    places: &[usize; MOST_ENTRIES],
+    members: &[u64; MOST_ENTRIES],
+    i: usize,
+    p: Pattern,
+) -> bool
+    requires { ⌜ EntriesStand (now t) (entriesLent count (now places)) × MembersStand (now t) (entriesLent count (now places)) (now members)
+        × (i < mostPatterns) × WellFormed p ⌝ }
     ensures { λ r. ⌜ r ≡ oneThatCovers (patternOf p) (entriesOf i (tableAt (now (t .entry)))) ⌝ }
 {
     let mut found = 0;
     let mut j = 0;
-    while j < entries.count {
-        found = weigh(t, entries.places[j], members[j], i, p, found);
+    while j < count {
+        found = weigh(t, places[j], members[j], i, p, found);
         j += 1;
     }
     found == 1
@@ -96,18 +104,21 @@ fn stands(t: &[u8], entries: Entries, members: [u64; MOST_ENTRIES], i: usize, p:
 // Is each subscription in exactly one entry, and does that entry cover it?
 fn all_stand(
     s: &[u8],
-    subscriptions: Subscriptions,
+    subscribed: usize,
+    patterns: &[usize; MOST_PATTERNS],
     t: &[u8],
-    entries: Entries,
-    members: [u64; MOST_ENTRIES],
+    count: usize,
+    places: &[usize; MOST_ENTRIES],
+    members: &[u64; MOST_ENTRIES],
 ) -> bool
-    requires { ⌜ SubscriptionsStand (now s) subscriptions × EntriesStand (now t) entries × MembersStand (now t) entries members ⌝ }
+    requires { ⌜ SubscriptionsStand (now s) (subscriptionsLent subscribed (now patterns)) × EntriesStand (now t) (entriesLent count (now places))
+        × MembersStand (now t) (entriesLent count (now places)) (now members) ⌝ }
     ensures { λ r. ⌜ r ≡ eachInOne 0 (sheetAt (now (s .entry)) .patterns) (tableAt (now (t .entry))) ⌝ }
 {
     let mut i = 0;
-    while i < subscriptions.count {
-        let p = pattern_at(s, subscriptions.places[i]);
-        if !stands(t, entries, members, i, p) {
+    while i < subscribed {
+        let p = pattern_at(s, patterns[i]);
+        if !stands(t, count, places, members, i, p) {
             return false;
         }
         i += 1;
@@ -116,15 +127,27 @@ fn all_stand(
 }
 
 // Is the table fair?
-fn is_fair(s: &[u8], subscriptions: Subscriptions, t: &[u8], entries: Entries) -> bool
-    requires { ⌜ SubscriptionsStand (now s) subscriptions × EntriesStand (now t) entries ⌝ }
+fn is_fair(s: &[u8], t: &[u8]) -> bool
+    requires { ⌜ SubscriptionsStand (now s) (subscriptionsOf (now s)) × EntriesStand (now t) (tableEntries (now t)) ⌝ }
     ensures { λ r. ⌜ r ≡ fairAt (now (s .entry)) (now (t .entry)) ⌝ }
 {
-    if !all_fit(t, entries, subscriptions.count) {
+    let subscriptions = subscriptions_in(s);
+    let subscribed = subscriptions.count;
+    let entries = entries_in(t);
+    let count = entries.count;
+    if !all_fit(t, count, &entries.places, subscribed) {
         return false;
     }
-    let members = members_in(t, entries);
-    all_stand(s, subscriptions, t, entries, members)
+    let members = members_in(t, count, &entries.places);
+    all_stand(
+        s,
+        subscribed,
+        &subscriptions.places,
+        t,
+        count,
+        &entries.places,
+        &members,
+    )
 }
 
 // Where a table ends that passes the table check, the sheet judged first, or the first fault; 12 last.
@@ -133,7 +156,7 @@ pub fn fair_table(s: &[u8], t: &[u8]) -> Cur
 {
     match sheet_and_table(s, t) {
         Cur::At(x) => {
-            if is_fair(s, subscriptions_in(s), t, entries_in(t)) {
+            if is_fair(s, t) {
                 return Cur::At(x);
             }
             Cur::No(NOT_FAIR)

@@ -49,6 +49,10 @@ entryPlaces t = standing itself (afterEntry t)
 unfoldable pub tableEntries : List ℕ → Entries
 tableEntries t = record { count = pick (leb (getD t 0 0) mostEntries) (getD t 0 0) 0; places = entryPlaces t 1 mostEntries }
 
+-- entries that are lent part by part
+abbrev pub entriesLent : ℕ → List ℕ → Entries
+entriesLent count places = record { count = count; places = places }
+
 -- ---- how they are judged
 
 -- an entry at x, with so many labels

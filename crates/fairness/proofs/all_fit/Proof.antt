@@ -3,15 +3,16 @@ use Prim.Native.Nat.{_-_}
 use native.Mathlib.Omega.{arith}
 use borrow.Author.Needs.{needs}
 use borrow.Author.Tests.{not-true, not-false}
+use Rattle.tables.specs.TableSection.{entriesLent}
 use Rattle.fairness.specs.Each.{FittingEntries, fitting-starts, entry-fits, entry-doesn't-fit, fitting-ends}
 use Rattle.fairness.proofs.all_fit.Statement.{statement}
 use Rattle.fairness.proofs.all_fit.Tie as tie
 
 abbrev Inv-loop : tie.InvT-loop
-Inv-loop t n entries j₀ j = FittingEntries n t entries j
+Inv-loop t count places n j₀ j = FittingEntries n t (entriesLent count places) j
 
 abbrev μ-loop : tie.MeasureT-loop
-μ-loop t n entries j₀ j = entries .count - j
+μ-loop t count places n j₀ j = count - j
 
 loop-holds : tie.Need-loop-holds Inv-loop μ-loop
 loop-holds c = fitting-starts (c .before .pre .0)

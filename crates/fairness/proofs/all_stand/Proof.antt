@@ -5,15 +5,15 @@ use borrow.Author.Needs.{needs}
 use borrow.Author.Tests.{not-true, not-false}
 use Rattle.subscriptions.specs.Subscribed.{pattern-here}
 use Rattle.tables.specs.TableSection.{tableAt}
-use Rattle.fairness.specs.Each.{StandingFrom, standing-starts, subscription-stands, subscription-doesn't, standing-ends}
+use Rattle.fairness.specs.Each.{subscriptionsLent, StandingFrom, standing-starts, subscription-stands, subscription-doesn't, standing-ends}
 use Rattle.fairness.proofs.all_stand.Statement.{statement}
 use Rattle.fairness.proofs.all_stand.Tie as tie
 
 abbrev Inv-loop : tie.InvT-loop
-Inv-loop s t entries members subscriptions i₀ i = StandingFrom s subscriptions (tableAt t) i
+Inv-loop s subscribed patterns t count places members i₀ i = StandingFrom s (subscriptionsLent subscribed patterns) (tableAt t) i
 
 abbrev μ-loop : tie.MeasureT-loop
-μ-loop s t entries members subscriptions i₀ i = subscriptions .count - i
+μ-loop s subscribed patterns t count places members i₀ i = subscribed - i
 
 loop-holds : tie.Need-loop-holds Inv-loop μ-loop
 loop-holds c = standing-starts (c .before .before .pre .0)

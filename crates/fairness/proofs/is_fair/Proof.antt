@@ -1,4 +1,5 @@
 -- `fairness::is_fair` meets its contract: the entries first, then each subscription.
+use borrow.Author.Needs.{needs}
 use borrow.Author.Tests.{not-true, not-false}
 use Rattle.fairness.specs.FairJudged.{not-fit, all-fit}
 use Rattle.fairness.proofs.is_fair.Statement.{statement}
@@ -6,26 +7,39 @@ use Rattle.fairness.proofs.is_fair.Tie as tie
 
 all-fit-requires : tie.Need-all-fit-requires
 all-fit-requires c κs =
-    let pre = c .before .before .pre in
-    (pre .1, pre .0 .few)
+    let entries = c .before .before in
+    let pre = entries .before .before .before .before .pre in
+    (rw (entries .entries-in .ensures) (pre .1), rw (entries .before .subscriptions-in .ensures) (pre .0 .few))
 
 returns : tie.Need-returns
-returns c = not-fit _ _ (c .before .before .before .before .pre .0 .counted) (c .before .all-fit .ensures) (not-true _ (c .if1 .taken))
+returns c =
+    let fit = c .before in
+    let entries = fit .before .before .before in
+    let pre = entries .before .before .before .before .pre in
+    not-fit _ _ (rw (entries .before .subscriptions-in .ensures) (pre .0 .counted)) (fit .all-fit .ensures) (not-true _ (c .if1 .taken))
 
 members-in-requires : tie.Need-members-in-requires
-members-in-requires c κs = c .before .before .before .before .pre .1 .few
+members-in-requires c κs =
+    let entries = c .before .before .before .before .before .before in
+    rw (entries .entries-in .ensures) (entries .before .before .before .before .pre .1 .few)
 
 all-stand-requires : tie.Need-all-stand-requires
 all-stand-requires c κs =
-    let pre = c .before .before .before .before .before .pre in
-    (pre .0, pre .1, c .members-in .ensures)
+    let members = c .before .before .before .before .before in
+    let entries = members .before .before .before .before .before .before .before in
+    let pre = entries .before .before .before .before .pre in
+    (rw (entries .before .subscriptions-in .ensures) (pre .0), rw (entries .entries-in .ensures) (pre .1), members .members-in .ensures)
 
 returns-2 : tie.Need-returns-2
 returns-2 c =
-    let fit = c .before .before .before in
-    all-fit _ _ (fit .before .before .before .pre .0 .counted) (fit .all-fit .ensures) (not-false _ (c .before .before .if1 .left))
+    let left = c .before .before .before .before .before .before .before .before .before in
+    let fit = left .before in
+    let entries = fit .before .before .before in
+    let pre = entries .before .before .before .before .pre in
+    all-fit _ _ (rw (entries .before .subscriptions-in .ensures) (pre .0 .counted)) (fit .all-fit .ensures) (not-false _ (left .if1 .left))
     (c .all-stand .ensures)
 
 pub is-fair-spec : {M : Type 1} → statement M
 is-fair-spec =
-    tie.close (tie.spec all-fit-requires returns members-in-requires all-stand-requires returns-2)
+    tie.close
+    (tie.spec (λ c κs. search needs) (λ c κs. search needs) all-fit-requires returns members-in-requires all-stand-requires returns-2)

@@ -3,15 +3,16 @@ use Prim.Native.Nat.{_-_, _≤_}
 use mathlib.Core.Path.{_≡_}
 use native.Mathlib.Omega.{arith}
 use borrow.Author.Needs.{needs}
+use Rattle.tables.specs.TableSection.{entriesLent}
 use Rattle.fairness.specs.EntryMembers.{FirstMembers, no-members, one-more}
 use Rattle.fairness.proofs.members_in.Statement.{statement}
 use Rattle.fairness.proofs.members_in.Tie as tie
 
 abbrev Inv-loop : tie.InvT-loop
-Inv-loop t entries members₀ j₀ members j = (j ≤ entries .count) × FirstMembers t entries j members
+Inv-loop t count places members₀ j₀ members j = (j ≤ count) × FirstMembers t (entriesLent count places) j members
 
 abbrev μ-loop : tie.MeasureT-loop
-μ-loop t entries members₀ j₀ members j = entries .count - j
+μ-loop t count places members₀ j₀ members j = count - j
 
 loop-holds : tie.Need-loop-holds Inv-loop μ-loop
 loop-holds c = (omega arith, no-members _ _ _ (search needs))
@@ -24,7 +25,7 @@ loop-again c =
 returns : tie.Need-returns Inv-loop μ-loop
 returns c =
     let l = c .before .loop in
-    let all : l .j ≡ c .before .before .before .args .t2 .count = omega arith in
+    let all : l .j ≡ c .before .before .before .args .count = omega arith in
     rw all at (l .inv .1)
 
 pub members-in-spec : {M : Type 1} → statement M
