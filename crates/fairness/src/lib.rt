@@ -1,4 +1,5 @@
-// The table check: whether a table is fair beside its sheet.
+// The table check: whether a table is fair beside its sheet. Places and members are lent, with their count beside them:
+// by value each call would copy them on the stack.
 use base::Cur;
 use covering::covers;
 use meaning::DONE;
@@ -16,6 +17,7 @@ use tables::members_at;
 use tables::sheet_and_table;
 ghost use Prim.Native.Nat.{_≤_, _<_};
 ghost use mathlib.Core.Path.{_≡_};
+ghost use lib.ListN.{length};
 ghost use Rattle.base.specs.Lists.{every};
 ghost use Rattle.meaning.specs.Numbers.{mostEntries, mostPatterns};
 ghost use Rattle.meaning.specs.Fair.{entriesOf, oneThatCovers, eachInOne};
@@ -46,18 +48,21 @@ fn all_fit(t: &[u8], count: usize, places: &[usize; MOST_ENTRIES], n: usize) -> 
     true
 }
 
-// The members of every entry: each is asked for every subscription.
-fn members_in(t: &[u8], count: usize, places: &[usize; MOST_ENTRIES]) -> [u64; MOST_ENTRIES]
-    requires { ⌜ count ≤ mostEntries ⌝ }
-    ensures { λ r. ⌜ MembersStand (now (t .entry)) (entriesLent count (now (places .entry))) r ⌝ }
+// Takes out the members of every entry: each is asked for every subscription.
+fn take_members(
+    members: &mut [u64; MOST_ENTRIES],
+    t: &[u8],
+    count: usize,
+    places: &[usize; MOST_ENTRIES],
+)
+    requires { ⌜ (length (now members) ≡ mostEntries) × (count ≤ mostEntries) ⌝ }
+    ensures { λ r. ⌜ MembersStand (now (t .entry)) (entriesLent count (now (places .entry))) (now (members .exit)) ⌝ }
 {
-    let mut members = [0; MOST_ENTRIES];
     let mut j = 0;
     while j < count {
         members[j] = members_at(t, places[j]);
         j += 1;
     }
-    members
 }
 
 // Weighs the entry at x for subscription i, whose pattern is p: 0 while no entry has it, 1 after one that covers it, 2 after
@@ -101,7 +106,7 @@ fn stands(
     found == 1
 }
 
-// Is each subscription in exactly one entry, and does that entry cover it?
+// Is each subscription, the patterns at these places of the sheet, in exactly one entry, and does that entry cover it?
 fn all_stand(
     s: &[u8],
     subscribed: usize,
@@ -138,7 +143,8 @@ fn is_fair(s: &[u8], t: &[u8]) -> bool
     if !all_fit(t, count, &entries.places, subscribed) {
         return false;
     }
-    let members = members_in(t, count, &entries.places);
+    let mut members: [u64; MOST_ENTRIES] = [0; MOST_ENTRIES];
+    take_members(&mut members, t, count, &entries.places);
     all_stand(
         s,
         subscribed,

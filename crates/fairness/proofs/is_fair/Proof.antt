@@ -18,21 +18,21 @@ returns c =
     let pre = entries .before .before .before .before .pre in
     not-fit _ _ (rw (entries .before .subscriptions-in .ensures) (pre .0 .counted)) (fit .all-fit .ensures) (not-true _ (c .if1 .taken))
 
-members-in-requires : tie.Need-members-in-requires
-members-in-requires c κs =
-    let entries = c .before .before .before .before .before .before in
-    rw (entries .entries-in .ensures) (entries .before .before .before .before .pre .1 .few)
+take-members-requires : tie.Need-take-members-requires
+take-members-requires c κs =
+    let entries = c .before .before .before .before .before .before .before in
+    (search needs, rw (entries .entries-in .ensures) (entries .before .before .before .before .pre .1 .few))
 
 all-stand-requires : tie.Need-all-stand-requires
 all-stand-requires c κs =
     let members = c .before .before .before .before .before in
-    let entries = members .before .before .before .before .before .before .before in
+    let entries = members .before .before .before .before .before .before .before .before in
     let pre = entries .before .before .before .before .pre in
-    (rw (entries .before .subscriptions-in .ensures) (pre .0), rw (entries .entries-in .ensures) (pre .1), members .members-in .ensures)
+    (rw (entries .before .subscriptions-in .ensures) (pre .0), rw (entries .entries-in .ensures) (pre .1), members .take-members .ensures)
 
 returns-2 : tie.Need-returns-2
 returns-2 c =
-    let left = c .before .before .before .before .before .before .before .before .before in
+    let left = c .before .before .before .before .before .before .before .before .before .before in
     let fit = left .before in
     let entries = fit .before .before .before in
     let pre = entries .before .before .before .before .pre in
@@ -42,4 +42,4 @@ returns-2 c =
 pub is-fair-spec : {M : Type 1} → statement M
 is-fair-spec =
     tie.close
-    (tie.spec (λ c κs. search needs) (λ c κs. search needs) all-fit-requires returns members-in-requires all-stand-requires returns-2)
+    (tie.spec (λ c κs. search needs) (λ c κs. search needs) all-fit-requires returns take-members-requires all-stand-requires returns-2)
