@@ -27,10 +27,6 @@ use Rattle.tables.specs.TableSection.{entryTaken, tableAt}
 use Rattle.tables.specs.TableJudged.{EntriesStand}
 use Rattle.meaning.specs.Fair.{entriesOf, oneThatCovers, eachInOne, isPeopled, isWithin, fair}
 
--- subscriptions that are lent part by part
-abbrev pub subscriptionsLent : ℕ → List ℕ → Subscriptions
-subscriptionsLent count places = record { count = count; places = places }
-
 -- an entry with members, and all within the sheet, of n subscriptions
 unfoldable pub isFit : ℕ → Entry → Bool
 isFit n e = membersFit n (e .members)

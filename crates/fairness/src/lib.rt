@@ -24,13 +24,13 @@ ghost use Rattle.meaning.specs.Fair.{entriesOf, oneThatCovers, eachInOne};
 ghost use Rattle.meaning.specs.Calls.{tableNumber};
 ghost use Rattle.shapes.specs.Shapes.{patternOf, entryOf, WellFormed};
 ghost use Rattle.reading.specs.SheetPlaces.{sheetAt};
-ghost use Rattle.subscriptions.specs.Taken.{subscriptionsOf};
+ghost use Rattle.subscriptions.specs.Taken.{subscriptionsOf, subscriptionsLent};
 ghost use Rattle.subscriptions.specs.Subscribed.{SubscriptionsStand};
 ghost use Rattle.tables.specs.TableSection.{entryTaken, tableAt, tableEntries, entriesLent};
 ghost use Rattle.tables.specs.TableJudged.{EntriesStand};
 ghost use Rattle.fairness.specs.EntryMembers.{MembersStand};
 ghost use Rattle.fairness.specs.Weighing.{weighed};
-ghost use Rattle.fairness.specs.Each.{isFit, subscriptionsLent};
+ghost use Rattle.fairness.specs.Each.{isFit};
 ghost use Rattle.fairness.specs.FairJudged.{fairAt, fairPlace};
 
 // No entry is without members, and no member is outside the sheet, of n subscriptions.

@@ -1,4 +1,3 @@
-pub mod Lent
 pub mod Plain
 pub mod ThreeJudged
 pub mod Tabling

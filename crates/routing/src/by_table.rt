@@ -14,12 +14,11 @@ ghost use Rattle.meaning.specs.Numbers.{mostPatterns};
 ghost use Rattle.meaning.specs.Satisfying.{satisfies};
 ghost use Rattle.shapes.specs.Shapes.{nodesAt, entryOf, patternOf, WellFormed};
 ghost use Rattle.reading.specs.SheetPlaces.{sheetAt};
-ghost use Rattle.subscriptions.specs.Taken.{patternAt};
+ghost use Rattle.subscriptions.specs.Taken.{patternAt, subscriptionsLent};
 ghost use Rattle.subscriptions.specs.Subscribed.{SubscriptionsStand};
-ghost use Rattle.tables.specs.TableSection.{tableAt};
+ghost use Rattle.tables.specs.TableSection.{tableAt, entriesLent};
 ghost use Rattle.tables.specs.TableJudged.{EntriesStand};
 ghost use Rattle.documents.specs.DocumentJudged.{NodesStand};
-ghost use Rattle.routing.specs.Lent.{subscribed, entered};
 ghost use Rattle.routing.specs.Tabling.{memberTry, memberTried, askMembers, askEntry, routeBy};
 
 // A route so far: the delivery set, and how many patterns were tried.
@@ -85,7 +84,7 @@ fn ask_members(
     members: u64,
     route: Route,
 ) -> Route
-    requires { ⌜ SubscriptionsStand (now s) (subscribed count (now places)) × NodesStand (now d) at n × (route .tried < 2 ^ 31) ⌝ }
+    requires { ⌜ SubscriptionsStand (now s) (subscriptionsLent count (now places)) × NodesStand (now d) at n × (route .tried < 2 ^ 31) ⌝ }
     ensures { λ r. ⌜ r ≡ askMembers (nodesAt (now (d .entry)) at n) (sheetAt (now (s .entry)) .patterns) members route ⌝ }
 {
     let mut so_far = route;
@@ -109,7 +108,7 @@ fn ask_entry(
     e: Entry,
     route: Route,
 ) -> Route
-    requires { ⌜ SubscriptionsStand (now s) (subscribed count (now places)) × NodesStand (now d) at n × WellFormed (e .pattern) × (route .tried < 2 ^ 30) ⌝ }
+    requires { ⌜ SubscriptionsStand (now s) (subscriptionsLent count (now places)) × NodesStand (now d) at n × WellFormed (e .pattern) × (route .tried < 2 ^ 30) ⌝ }
     ensures { λ r. ⌜ r ≡ askEntry (nodesAt (now (d .entry)) at n) (sheetAt (now (s .entry)) .patterns) (entryOf e) route ⌝ }
 {
     let asked = try_pattern(d, at, n, e.pattern, route.tried);
@@ -135,7 +134,7 @@ pub fn ask_entries(
     at: usize,
     n: usize,
 ) -> Route
-    requires { ⌜ SubscriptionsStand (now s) (subscribed count (now places)) × EntriesStand (now t) (entered «entry_count» (now «entry_places»))
+    requires { ⌜ SubscriptionsStand (now s) (subscriptionsLent count (now places)) × EntriesStand (now t) (entriesLent «entry_count» (now «entry_places»))
         × NodesStand (now d) at n ⌝ }
     ensures { λ r. ⌜ r ≡ routeBy (nodesAt (now (d .entry)) at n) (sheetAt (now (s .entry)) .patterns) (tableAt (now (t .entry))) ⌝ }
 {

@@ -13,11 +13,11 @@ ghost use Prim.Native.Nat.{_^_, _<_};
 ghost use Rattle.meaning.specs.Routing.{tableRoute, membersSay, answerComes, triedUntilWanted};
 ghost use Rattle.shapes.specs.Shapes.{nodesAt, entryOf, WellFormed};
 ghost use Rattle.reading.specs.SheetPlaces.{sheetAt};
+ghost use Rattle.subscriptions.specs.Taken.{subscriptionsLent};
 ghost use Rattle.subscriptions.specs.Subscribed.{SubscriptionsStand};
-ghost use Rattle.tables.specs.TableSection.{tableAt};
+ghost use Rattle.tables.specs.TableSection.{tableAt, entriesLent};
 ghost use Rattle.tables.specs.TableJudged.{EntriesStand};
 ghost use Rattle.documents.specs.DocumentJudged.{NodesStand};
-ghost use Rattle.routing.specs.Lent.{subscribed, entered};
 ghost use Rattle.routing.specs.Wanting.{askInTurn};
 
 // Members are tried until one matches.
@@ -31,7 +31,7 @@ fn seek_members(
     members: u64,
     tried: usize,
 ) -> Tried
-    requires { ⌜ SubscriptionsStand (now s) (subscribed count (now places)) × NodesStand (now d) at n × (tried < 2 ^ 31) ⌝ }
+    requires { ⌜ SubscriptionsStand (now s) (subscriptionsLent count (now places)) × NodesStand (now d) at n × (tried < 2 ^ 31) ⌝ }
     ensures { λ r. ⌜ r ≡ askInTurn (membersSay (nodesAt (now (d .entry)) at n) (sheetAt (now (s .entry)) .patterns) members) tried ⌝ }
 {
     let mut so_far = tried;
@@ -62,7 +62,7 @@ fn seek_entry(
     e: Entry,
     tried: usize,
 ) -> Tried
-    requires { ⌜ SubscriptionsStand (now s) (subscribed count (now places)) × NodesStand (now d) at n × WellFormed (e .pattern) × (tried < 2 ^ 30) ⌝ }
+    requires { ⌜ SubscriptionsStand (now s) (subscriptionsLent count (now places)) × NodesStand (now d) at n × WellFormed (e .pattern) × (tried < 2 ^ 30) ⌝ }
     ensures { λ r. ⌜ r ≡ askInTurn (answerComes (nodesAt (now (d .entry)) at n) (sheetAt (now (s .entry)) .patterns) (entryOf e)) tried ⌝ }
 {
     let asked = try_pattern(d, at, n, e.pattern, tried);
@@ -84,7 +84,7 @@ pub fn seek_entries(
     at: usize,
     n: usize,
 ) -> Tried
-    requires { ⌜ SubscriptionsStand (now s) (subscribed count (now places)) × EntriesStand (now t) (entered «entry_count» (now «entry_places»))
+    requires { ⌜ SubscriptionsStand (now s) (subscriptionsLent count (now places)) × EntriesStand (now t) (entriesLent «entry_count» (now «entry_places»))
         × NodesStand (now d) at n ⌝ }
     ensures { λ r. ⌜ (r .yes ≡ not (eqb (tableRoute (nodesAt (now (d .entry)) at n) (tableAt (now (t .entry))) (sheetAt (now (s .entry)) .patterns)) 0))
         × (r .tried ≡ triedUntilWanted (nodesAt (now (d .entry)) at n) (tableAt (now (t .entry))) (sheetAt (now (s .entry)) .patterns)) ⌝ }

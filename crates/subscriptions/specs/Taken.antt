@@ -40,3 +40,7 @@ subscriptionCount s = pick (leb (getD s (patternCountAt s) 0) mostPatterns) (get
 -- the count, and the place of each pattern; behind those the places go on in the same way
 unfoldable pub subscriptionsOf : List ℕ → Subscriptions
 subscriptionsOf s = record { count = subscriptionCount s; places = patternPlaces s (patternCountAt s + 1) mostPatterns }
+
+-- subscriptions that are lent part by part
+abbrev pub subscriptionsLent : ℕ → List ℕ → Subscriptions
+subscriptionsLent count places = record { count = count; places = places }

@@ -52,6 +52,7 @@ fn nodes(random: &mut Random, sheet: &Sheet, choice: &LabelChoice) -> Vec<Node> 
     let count = match random.below(40) {
         0 => random.pick(&[1023, 1024, 1024]),
         1 | 2 => random.between(17, 80),
+        3 => near_a_power_of_two(random),
         _ => random.between(2, 12),
     };
     match random.below(10) {
@@ -64,6 +65,12 @@ fn nodes(random: &mut Random, sheet: &Sheet, choice: &LabelChoice) -> Vec<Node> 
         _ if sheet.patterns.is_empty() => shaped(random, 1, choice, |_, _| 1),
         _ => for_patterns(random, sheet, choice),
     }
+}
+
+/// From 15 to 1,024: where an implementation's working memory might end.
+fn near_a_power_of_two(random: &mut Random) -> usize {
+    let power = 1 << random.between(4, 10);
+    random.between(power - 1, 1024.min(power + 1))
 }
 
 /// So many nodes; the parent of each but the first is drawn from its number.

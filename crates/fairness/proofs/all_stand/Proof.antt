@@ -5,7 +5,8 @@ use borrow.Author.Needs.{needs}
 use borrow.Author.Tests.{not-true, not-false}
 use Rattle.subscriptions.specs.Subscribed.{pattern-here}
 use Rattle.tables.specs.TableSection.{tableAt}
-use Rattle.fairness.specs.Each.{subscriptionsLent, StandingFrom, standing-starts, subscription-stands, subscription-doesn't, standing-ends}
+use Rattle.subscriptions.specs.Taken.{subscriptionsLent}
+use Rattle.fairness.specs.Each.{StandingFrom, standing-starts, subscription-stands, subscription-doesn't, standing-ends}
 use Rattle.fairness.proofs.all_stand.Statement.{statement}
 use Rattle.fairness.proofs.all_stand.Tie as tie
 
