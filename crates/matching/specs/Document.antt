@@ -21,11 +21,7 @@ use Rattle.matching.specs.GivenBits.{kids-in-word}
 use Rattle.matching.specs.Gave.{turn-gives}
 use Rattle.matching.specs.Filled.{Filled}
 use Rattle.matching.specs.Filling.{fill-starts, fill-goes-on, fill-ends}
-use Rattle.matching.specs.Nodes.{length-parentsOf, length-nodesAt, parent-at, label-at}
-
--- the parent of a node that stands at a place, in two bytes, the low one first
-abbrev pub parentFrom : List ℕ → ℕ → ℕ
-parentFrom bs a = getD bs a 0 + 256 * getD bs (a + 1) 0
+use Rattle.matching.specs.Nodes.{parentFrom, length-parentsOf, length-nodesAt, parent-at, label-at}
 
 module _ (m : Masks) (bs : List ℕ) (at : ℕ) where
   -- the words after the turns of the first u nodes that stand from a place on, the last of them first

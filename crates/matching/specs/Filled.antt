@@ -20,16 +20,12 @@ use Rattle.laws.specs.Rising.{Rising}
 use Rattle.laws.specs.Below.{ByChild, child-above, reaches-child, reaches-join, reaches-split}
 use Rattle.laws.specs.Children.{childrenOf}
 use Rattle.matching.specs.NodeNotes.{noted, StepNumber}
-use Rattle.matching.specs.Giving.{fits, givesUp}
+use Rattle.matching.specs.Giving.{isFar, fits, givesUp}
 use Rattle.matching.specs.Nodes.{length-parentsOf}
 
 -- the axis of step k
 abbrev pub axisAt : List Step → ℕ → Axis
 axisAt ss k = axisOf (stepAt ss k .axis)
-
--- it is not 0, so the step is far
-abbrev pub isFar : List Step → ℕ → Bool
-isFar ss k = not (eqb (stepAt ss k .axis) 0)
 
 -- node w fits step k
 abbrev pub nodeFits : List Node → List Step → ℕ → ℕ → Bool
@@ -89,9 +85,9 @@ module _ (ns : List Node) (ss : List Step) (rising : Rising (parentsOf ns)) wher
   -- a child of t that fits the step, or below which a far step holds, gives it
   gives-fitting : (t k w : ℕ) → 1 ≤ w → w ≤ length ns → isChild (parentsOf ns) t w ≡ true → nodeFits ns ss k w ≡ true → givenBelow ns ss t k ≡ true
   unfolding givenBy givesUp
-  gives-fitting t k w low high c f = some-number-of _ 1 (length ns) w low (omega arith) (and-both _ _ c (or-second (isFar ss k && stepHolds ns ss w k) _ f))
+  gives-fitting t k w low high c f = some-number-of _ 1 (length ns) w low (omega arith) (and-both _ _ c (or-second (isFar (stepAt ss k) && stepHolds ns ss w k) _ f))
 
-  gives-far : (t k w : ℕ) → w ≤ length ns → isChild (parentsOf ns) t w ≡ true → isFar ss k ≡ true → stepHolds ns ss w k ≡ true → givenBelow ns ss t k ≡ true
+  gives-far : (t k w : ℕ) → w ≤ length ns → isChild (parentsOf ns) t w ≡ true → isFar (stepAt ss k) ≡ true → stepHolds ns ss w k ≡ true → givenBelow ns ss t k ≡ true
   unfolding givenBy givesUp
   gives-far t k w high c y h =
       let above = child-above (parentsOf ns) rising t w (omega (arith, length-parentsOf ns)) c in
@@ -103,15 +99,15 @@ module _ (ns : List Node) (ss : List Step) (rising : Rising (parentsOf ns)) wher
   given-holds t k h =
       let (w, low, high, e) = some-number (givenBy ns ss t k) 1 (length ns) h in
       let child = isChild (parentsOf ns) t w in
-      let below = isFar ss k && stepHolds ns ss w k in
+      let below = isFar (stepAt ss k) && stepHolds ns ss w k in
       let fitting = nodeFits ns ss k w in
       go w low high (and-first child (below || fitting) e) (or-cases below fitting (and-second child (below || fitting) e))
     where
       go : (w : ℕ) → 1 ≤ w → w < 1 + length ns → isChild (parentsOf ns) t w ≡ true
-          → ((isFar ss k && stepHolds ns ss w k) ≡ true) ⊎ (nodeFits ns ss k w ≡ true) → stepHolds ns ss t k ≡ true
+          → ((isFar (stepAt ss k) && stepHolds ns ss w k) ≡ true) ⊎ (nodeFits ns ss k w ≡ true) → stepHolds ns ss t k ≡ true
       go w low high c (inl b) =
-          let x = far-axis (stepAt ss k .axis) (and-first (isFar ss k) (stepHolds ns ss w k) b) in
-          let (v, by) = holds-by w k (and-second (isFar ss k) (stepHolds ns ss w k) b) in
+          let x = far-axis (stepAt ss k .axis) (and-first (isFar (stepAt ss k)) (stepHolds ns ss w k) b) in
+          let (v, by) = holds-by w k (and-second (isFar (stepAt ss k)) (stepHolds ns ss w k) b) in
           let reached : reaches (axisAt ss k) (parentsOf ns) t v ≡ true =
           rw x (reaches-join (parentsOf ns) rising t v (omega (arith, length-parentsOf ns, by .high)) w c (rw x at (by .reached))) in
           by-holds t k v (record { low = by .low; high = by .high; reached = reached; fitting = by .fitting })
@@ -124,14 +120,14 @@ module _ (ns : List Node) (ss : List Step) (rising : Rising (parentsOf ns)) wher
   unfolding reaches
   holds-given t k h = let (u, by) = holds-by t k h in go u by (axis-cases (stepAt ss k .axis))
     where
-      below : (u : ℕ) → HoldsBy t k u → axisAt ss k ≡ far → isFar ss k ≡ true
+      below : (u : ℕ) → HoldsBy t k u → axisAt ss k ≡ far → isFar (stepAt ss k) ≡ true
           → (isChild (parentsOf ns) t u ≡ true) ⊎ ByChild (parentsOf ns) t (λ w. reaches far (parentsOf ns) w u) → givenBelow ns ss t k ≡ true
       below u by x y (inl c) = gives-fitting t k u (by .low) (by .high) c (by .fitting)
       below u by x y (inr (w, m, c, b)) =
           let by-child = by-holds w k u (record { low = by .low; high = by .high; reached = rw x b; fitting = by .fitting }) in
           gives-far t k w (omega (arith, length-parentsOf ns)) c y by-child
 
-      go : (u : ℕ) → HoldsBy t k u → (axisAt ss k ≡ near) ⊎ ((axisAt ss k ≡ far) × (isFar ss k ≡ true)) → givenBelow ns ss t k ≡ true
+      go : (u : ℕ) → HoldsBy t k u → (axisAt ss k ≡ near) ⊎ ((axisAt ss k ≡ far) × (isFar (stepAt ss k) ≡ true)) → givenBelow ns ss t k ≡ true
       go u by (inl x) = gives-fitting t k u (by .low) (by .high) (rw x at (by .reached)) (by .fitting)
       go u by (inr (x, y)) = below u by x y (reaches-split (parentsOf ns) rising t u (omega (arith, length-parentsOf ns, by .high)) (rw x at (by .reached)))
 

@@ -26,9 +26,9 @@ use Rattle.laws.specs.MemberBits.{member-or, member-and, member-none, member-al
 use Rattle.laws.specs.HasAll.{hasAll, has-each, each-has}
 use Rattle.matching.specs.declared.masks.Masks.{Masks}
 use Rattle.matching.specs.NodeNotes.{hasStep, StepNumber}
-use Rattle.matching.specs.Giving.{fits, givesUp, kidsHold, kids-each, kids-all}
+use Rattle.matching.specs.Giving.{isFar, fits, givesUp, kidsHold, kids-each, kids-all}
 use Rattle.matching.specs.Masks.{caresFor, childOf, farAt, labelAt, caresAt, ownBit, MasksOf}
-use Rattle.matching.specs.NodeTurns.{oneGiven, withGiven, given}
+use Rattle.matching.specs.NodeTurns.{placeFits, oneGiven, withGiven, given}
 
 -- where the label is any no bit of a node's label matters, so every one fits; otherwise all eight do
 label-fits : (l label : ℕ) → label < 256 → eqb l (bitAnd label (caresFor l)) ≡ anyOrSame l label
@@ -60,9 +60,8 @@ module _ (m : Masks) (word label : ℕ) where
 
 module _ (ss : List Step) (m : Masks) (few : length ss ≤ mostSteps) (are : MasksOf ss m) where
   module _ (word label : ℕ) (small : label < 256) where
-    -- the label of the step at place j fits, and the word has all its child steps
     abbrev test : ℕ → Bool
-    test j = eqb (getD (m .labels) j 0) (bitAnd label (getD (m .cares) j 0)) && hasAll word (getD (m .children) (j + 1) 0)
+    test = placeFits m word label
 
     -- the step at place j gives its own bit and no other
     one-bit : (i j : ℕ) → j < mostSteps → gives m word label i j ≡ (test j && (ltb j (length ss) && eqb j i))
@@ -94,11 +93,11 @@ module _ (ss : List Step) (m : Masks) (few : length ss ≤ mostSteps) (are : Mas
         rw (are .labels .at i (omega arith), are .cares .at i (omega arith), there, label-fits (stepAt ss (suc i) .label) label small, add-one)
 
     -- the far steps of the word
-    far-step : (i : ℕ) → i < length ss → isMember (bitAnd word (m .far)) i ≡ (not (eqb (stepAt ss (suc i) .axis) 0) && isMember word i)
+    far-step : (i : ℕ) → i < length ss → isMember (bitAnd word (m .far)) i ≡ (isFar (stepAt ss (suc i)) && isMember word i)
     unfolding farAt
     far-step i h =
         member-and word (m .far) i
-        ∙ rw (are .far .bit i, lt-ltb i (length ss) h) (and-comm (isMember word i) (not (eqb (stepAt ss (suc i) .axis) 0)))
+        ∙ rw (are .far .bit i, lt-ltb i (length ss) h) (and-comm (isMember word i) (isFar (stepAt ss (suc i))))
 
     -- a node gives a step that is there by its bit exactly if it gives the step
     pub given-step : (k : ℕ) → StepNumber ss k

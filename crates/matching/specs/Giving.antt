@@ -20,9 +20,13 @@ use Rattle.meaning.specs.declared.Step.{Step}
 unfoldable pub fits : Step → ℕ → Bool → Bool
 fits s label kidsHold = anyOrSame (s .label) label && kidsHold
 
+-- axis 0 is near, every other is far
+abbrev pub isFar : Step → Bool
+isFar s = not (eqb (s .axis) 0)
+
 -- a node gives a step to its parent if it fits the step, or the step is far and holds below the node
 unfoldable pub givesUp : Step → ℕ → Bool → Bool → Bool
-givesUp s label kidsHold below = (not (eqb (s .axis) 0) && below) || fits s label kidsHold
+givesUp s label kidsHold below = (isFar s && below) || fits s label kidsHold
 
 -- every child step of step q, among the steps from number k on, holds by what is noted
 unfoldable pub kidsHold : (ℕ → Bool) → ℕ → ℕ → List Step → Bool

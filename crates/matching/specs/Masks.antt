@@ -6,6 +6,7 @@ use mathlib.Core.List.{List}
 use native.Mathlib.Omega.{arith}
 use native.Mathlib.Numerals.{add-one}
 use borrow.Author.Tests.{eqb-true, eqb-false, ltb-true, ltb-false, lt-ltb, le-ltb}
+use lib.Bits.{bitOr}
 use lib.Dec.{eqb, ltb}
 use lib.ListN.{length, getD, set, length-set, replicate, getD-replicate}
 use lib.Seq.{getD-set-same, getD-set-other}
@@ -16,6 +17,7 @@ use Rattle.meaning.specs.Covering.{stepAt}
 use Rattle.meaning.specs.declared.Step.{Step}
 use Rattle.laws.specs.MemberBits.{member-none}
 use Rattle.laws.specs.Marks.{marked, member-marked}
+use Rattle.matching.specs.Giving.{isFar}
 use Rattle.matching.specs.declared.masks.Masks.{Masks}
 
 -- all bits of a node's label matter to a step, but none where the step's own is any
@@ -26,7 +28,7 @@ caresFor label = pick (eqb label 0) 0 255
 pub record BitsOf (test : ℕ → Bool) (n word : ℕ) : Type 0 where
   pub bit : (i : ℕ) → isMember word i ≡ (ltb i n && test i)
 
--- sixteen numbers: at the first n places those of a list, and 0 at the others
+-- sixteen numbers: at each of the first n places its own, and 0 at the others
 pub record LaidOut (number : ℕ → ℕ) (n : ℕ) (xs : List ℕ) : Type 0 where
   pub full : length xs ≡ mostSteps
   pub at : (i : ℕ) → i < mostSteps → getD xs i 0 ≡ pick (ltb i n) (number i) 0
@@ -37,7 +39,7 @@ module _ (ss : List Step) where
   childOf q i = eqb (stepAt ss (suc i) .parent) q
 
   unfoldable pub farAt : ℕ → Bool
-  farAt i = not (eqb (stepAt ss (suc i) .axis) 0)
+  farAt i = isFar (stepAt ss (suc i))
 
   unfoldable pub labelAt : ℕ → ℕ
   labelAt i = stepAt ss (suc i) .label
@@ -57,7 +59,7 @@ pub record MasksSoFar (ss : List Step) (n : ℕ) (m : Masks) : Type 0 where
   pub own : LaidOut ownBit n (m .own)
   pub far : BitsOf (farAt ss) n (m .far)
 
--- masks whose far steps are counted apart
+-- masks whose far steps are kept apart
 abbrev pub withFar : Masks → ℕ → Masks
 withFar m far = record { children = m .children; labels = m .labels; cares = m .cares; own = m .own; far = far }
 
@@ -164,22 +166,24 @@ module _ (ss : List Step) where
             rw (getD-set-other (m .children) p q (marked (getD (m .children) p 0) n true) 0 (λ f. eqb-false p q s (sym f))) (rw said at more)
 
     -- one step more, by what is put at its places
-    pub masks-go-on : {s : Step} {kids cares bit far : ℕ} → s ≡ stepAt ss (suc n) → s .parent ≤ mostSteps
-        → kids ≡ marked (getD (m .children) (s .parent) 0) n true → cares ≡ caresFor (s .label) → bit ≡ 2 ^ n → far ≡ marked (m .far) n (not (eqb (s .axis) 0))
+    pub masks-go-on : {s : Step} {bit cares far : ℕ} → s ≡ stepAt ss (suc n) → s .parent ≤ mostSteps
+        → bit ≡ 2 ^ n → cares ≡ caresFor (s .label) → far ≡ marked (m .far) n (isFar s)
         → MasksSoFar ss (n + 1)
         (record {
-          children = set (m .children) (s .parent) kids;
+          children = set (m .children) (s .parent) (bitOr (getD (m .children) (s .parent) 0) bit);
           labels = set (m .labels) n (s .label);
           cares = set (m .cares) n cares;
           own = set (m .own) n bit;
           far = far;
         })
-    unfolding labelAt caresAt ownBit farAt
-    masks-go-on {s} e l f g' h i = rw (f, g', h, i, add-one) (record {
-      full = length-set (m .children) (s .parent) (marked (getD (m .children) (s .parent) 0) n true) ∙ g .full;
-      children = more-children (s .parent) (ap (λ (x : Step). x .parent) e) l;
-      labels = rw e (one-laid-more (labelAt ss) n (m .labels) few (g .labels));
-      cares = rw e (one-laid-more (caresAt ss) n (m .cares) few (g .cares));
-      own = one-laid-more ownBit n (m .own) few (g .own);
-      far = rw e (one-bit-more (farAt ss) n (m .far) (g .far));
-    })
+    unfolding labelAt caresAt ownBit farAt marked pick
+    masks-go-on {s} e l b c f =
+        rw (b, c, f, add-one)
+        (record {
+          full = length-set (m .children) (s .parent) (bitOr (getD (m .children) (s .parent) 0) (2 ^ n)) ∙ g .full;
+          children = more-children (s .parent) (ap (λ (x : Step). x .parent) e) l;
+          labels = rw e (one-laid-more (labelAt ss) n (m .labels) few (g .labels));
+          cares = rw e (one-laid-more (caresAt ss) n (m .cares) few (g .cares));
+          own = one-laid-more ownBit n (m .own) few (g .own);
+          far = rw e (one-bit-more (farAt ss) n (m .far) (g .far));
+        })

@@ -1,4 +1,4 @@
--- The notes: one word for each node, and for the top. Which bit is whose is said here and nowhere else.
+-- The notes: one word for each node, and for the top, in which bit k - 1 is step k. The masks are laid out alike.
 use Prim.Native.Nat.{ℕ, zero, suc, _≤_, _<_}
 use mathlib.Core.Path.{_≡_, refl, sym, ap, _∙_}
 use mathlib.Core.Bool.{Bool, true, false, _&&_, _||_, or-false}
@@ -26,7 +26,7 @@ hasStep word (suc i) = isMember word i
 unfoldable pub noted : List ℕ → ℕ → ℕ → Bool
 noted words t k = hasStep (getD words t 0) k
 
--- no word of zeros has any step, nor any behind their end
+-- every word of zeros is 0, and so is any behind their end
 all-zero : (n t : ℕ) → getD {A = ℕ} (replicate n 0) t 0 ≡ 0
 all-zero zero t = refl
 all-zero (suc n) zero = refl
@@ -39,7 +39,7 @@ blank-noted n t zero = refl
 blank-noted n t (suc i) = ap (λ (w : ℕ). isMember w i) (all-zero n t) ∙ member-none i
 
 -- a word takes the steps of another
-pub steps-or : (a b k : ℕ) → hasStep (bitOr a b) k ≡ (hasStep a k || hasStep b k)
+steps-or : (a b k : ℕ) → hasStep (bitOr a b) k ≡ (hasStep a k || hasStep b k)
 unfolding hasStep
 steps-or a b zero = refl
 steps-or a b (suc i) = member-or a b i

@@ -1,7 +1,7 @@
 -- A node's turn, as the code makes it: one word from sixteen steps, and the parent's word takes it.
 use Prim.Native.Nat.{ℕ, _+_}
 use mathlib.Core.Path.{_≡_, ap, _∙_}
-use mathlib.Core.Bool.{_&&_}
+use mathlib.Core.Bool.{Bool, _&&_}
 use mathlib.Core.List.{List}
 use lib.Bits.{bitAnd, bitOr}
 use lib.Dec.{eqb}
@@ -13,14 +13,17 @@ use Rattle.laws.specs.HasAll.{hasAll}
 use Rattle.matching.specs.declared.masks.Masks.{Masks}
 
 -- masks that are lent part by part
-abbrev pub lent : List ℕ → List ℕ → List ℕ → List ℕ → ℕ → Masks
-lent children labels cares own far = record { children = children; labels = labels; cares = cares; own = own; far = far }
+abbrev pub masksLent : List ℕ → List ℕ → List ℕ → List ℕ → ℕ → Masks
+masksLent children labels cares own far = record { children = children; labels = labels; cares = cares; own = own; far = far }
 
 module _ (m : Masks) where
-  -- the step at place k gives its bit where its label fits and the word has all its child steps
+  -- the label of the step at place k fits, and the word has all its child steps
+  abbrev pub placeFits : ℕ → ℕ → ℕ → Bool
+  placeFits word label k = eqb (getD (m .labels) k 0) (bitAnd label (getD (m .cares) k 0)) && hasAll word (getD (m .children) (k + 1) 0)
+
+  -- then that step gives its bit
   unfoldable pub oneGiven : ℕ → ℕ → ℕ → ℕ
-  oneGiven word label k =
-      pick (eqb (getD (m .labels) k 0) (bitAnd label (getD (m .cares) k 0)) && hasAll word (getD (m .children) (k + 1) 0)) (getD (m .own) k 0) 0
+  oneGiven word label k = pick (placeFits word label k) (getD (m .own) k 0) 0
 
   unfoldable pub withGiven : ℕ → ℕ → ℕ → ℕ → ℕ
   withGiven word label k bits = bitOr bits (oneGiven word label k)

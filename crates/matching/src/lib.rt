@@ -11,12 +11,13 @@ use meaning::MOST_STEPS;
 use shapes::Pattern;
 ghost use Prim.Native.Nat.{_+_, _*_, _<_, _≤_, _^_};
 ghost use mathlib.Core.Path.{_≡_};
-ghost use lib.ListN.{length, getD};
+ghost use lib.ListN.{length};
 ghost use Rattle.meaning.specs.Numbers.{mostNodes};
 ghost use Rattle.meaning.specs.Satisfying.{parentsOf, satisfies};
 ghost use Rattle.shapes.specs.Shapes.{patternOf, nodesAt, WellFormed};
 ghost use Rattle.laws.specs.Rising.{Rising};
-ghost use Rattle.matching.specs.NodeTurns.{lent};
+ghost use Rattle.matching.specs.Nodes.{parentFrom};
+ghost use Rattle.matching.specs.NodeTurns.{masksLent};
 ghost use Rattle.matching.specs.Document.{filled, TopWord};
 
 // So many words are enough for a document of fewer nodes, and sooner cleared than those of any document.
@@ -24,30 +25,29 @@ const FEW_WORDS: usize = 64;
 
 const SOME_WORDS: usize = 256;
 
-// The number of two bytes at a place, the low byte first.
+// The parent of the node at a place: two bytes, the low byte first.
 fn two_bytes(d: &[u8], a: usize) -> usize
     requires { ⌜ a + 1 < length (now d) ⌝ }
-    ensures { λ r. ⌜ r ≡ getD (now (d .entry)) a 0 + 256 * getD (now (d .entry)) (a + 1) 0 ⌝ }
+    ensures { λ r. ⌜ r ≡ parentFrom (now (d .entry)) a ⌝ }
 {
     d[a] as usize + 256 * (d[a + 1] as usize)
 }
 
 // Fills the notes of a document of n nodes, from the last to the first.
-fn fill<'a>(
+fn fill(
     words: &mut [u16],
     d: &[u8],
     at: usize,
     n: usize,
-    children: &'a [u16; MOST_STEPS + 1],
-    labels: &'a [u16; MOST_STEPS],
-    cares: &'a [u16; MOST_STEPS],
-    own: &'a [u16; MOST_STEPS],
+    children: &[u16; MOST_STEPS + 1],
+    labels: &[u16; MOST_STEPS],
+    cares: &[u16; MOST_STEPS],
+    own: &[u16; MOST_STEPS],
     far: u16,
 )
-    requires { ⌜ (n ≤ mostNodes) × (n < length (now words)) × (at + 3 * n ≤ length (now d))
-        × Rising (parentsOf (nodesAt (now d) at n)) ⌝ }
+    requires { ⌜ (n ≤ mostNodes) × (n < length (now words)) × (at + 3 * n ≤ length (now d)) × Rising (parentsOf (nodesAt (now d) at n)) ⌝ }
     ensures { λ r. ⌜ now (words .exit)
-        ≡ filled (lent (now (children .entry)) (now (labels .entry)) (now (cares .entry)) (now (own .entry)) far) (now (d .entry)) at n (now (words .entry)) ⌝ }
+        ≡ filled (masksLent (now (children .entry)) (now (labels .entry)) (now (cares .entry)) (now (own .entry)) far) (now (d .entry)) at n (now (words .entry)) ⌝ }
 {
     // Copies of its own, which no write to a word can touch: so the compiler keeps them in registers.
     let children_here = *children;
@@ -74,7 +74,7 @@ fn fill<'a>(
     }
 }
 
-// The top's word when all nodes have had their turn.
+// The top's word when all nodes have had their turn. The masks are fields of one struct, so they are lent for one lifetime.
 fn word_at_top<'a>(
     d: &[u8],
     at: usize,
@@ -85,9 +85,8 @@ fn word_at_top<'a>(
     own: &'a [u16; MOST_STEPS],
     far: u16,
 ) -> u16
-    requires { ⌜ (n ≤ mostNodes) × (at + 3 * n ≤ length (now d))
-        × Rising (parentsOf (nodesAt (now d) at n)) ⌝ }
-    ensures { λ r. ⌜ TopWord (lent (now (children .entry)) (now (labels .entry)) (now (cares .entry)) (now (own .entry)) far) (now (d .entry)) at n r ⌝ }
+    requires { ⌜ (n ≤ mostNodes) × (at + 3 * n ≤ length (now d)) × Rising (parentsOf (nodesAt (now d) at n)) ⌝ }
+    ensures { λ r. ⌜ TopWord (masksLent (now (children .entry)) (now (labels .entry)) (now (cares .entry)) (now (own .entry)) far) (now (d .entry)) at n r ⌝ }
 {
     if n < FEW_WORDS {
         let mut words: [u16; FEW_WORDS] = [0; FEW_WORDS];
@@ -110,7 +109,7 @@ pub fn matches(d: &[u8], at: usize, n: usize, p: Pattern) -> bool
     ensures { λ r. ⌜ r ≡ satisfies (nodesAt (now (d .entry)) at n) (patternOf p) ⌝ }
 {
     let m = masks_of(p);
-    let far = m.far;
+    let far = m.far; // no field is read while others are lent
     let word = word_at_top(d, at, n, &m.children, &m.labels, &m.cares, &m.own, far);
     has_all(word, m.children[0])
 }

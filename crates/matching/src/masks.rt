@@ -51,15 +51,16 @@ pub fn masks_of(p: Pattern) -> Masks
         own: [0; MOST_STEPS],
         far: 0,
     };
-    let mut far: u16 = 0;
+    let mut far: u16 = 0; // apart, or it would be stored and loaded again for each step
     let mut k = 0;
     while k < p.count {
         let s = p.steps[k];
         let q = s.parent as usize;
-        m.children[q] = mark(m.children[q], k, true);
+        let bit: u16 = 1 << k;
+        m.children[q] = m.children[q] | bit;
         m.labels[k] = s.label as u16;
         m.cares[k] = cares_for(s.label);
-        m.own[k] = 1 << k;
+        m.own[k] = bit;
         far = mark(far, k, s.axis != 0);
         k += 1;
     }

@@ -6,7 +6,7 @@ ghost use mathlib.Core.Bool.{_&&_};
 ghost use lib.ListN.{length};
 ghost use Rattle.base.specs.Choice.{pick};
 ghost use Rattle.laws.specs.HasAll.{hasAll};
-ghost use Rattle.matching.specs.NodeTurns.{lent, given, turned};
+ghost use Rattle.matching.specs.NodeTurns.{masksLent, given, turned};
 
 // Does the word have all bits of the mask?
 pub fn has_all(word: u16, mask: u16) -> bool
@@ -29,17 +29,17 @@ fn bit_where(bit: u16, fits: bool, kids_hold: bool) -> u16
 
 // What a node with this word and this label gives to its parent: the far steps of the word, and the steps that the node
 // fits. No test in the loop decides where it goes on, so that the compiler makes vectors of it.
-fn given<'a>(
-    children: &'a [u16; MOST_STEPS + 1],
-    labels: &'a [u16; MOST_STEPS],
-    cares: &'a [u16; MOST_STEPS],
-    own: &'a [u16; MOST_STEPS],
+fn given(
+    children: &[u16; MOST_STEPS + 1],
+    labels: &[u16; MOST_STEPS],
+    cares: &[u16; MOST_STEPS],
+    own: &[u16; MOST_STEPS],
     far: u16,
     word: u16,
     label: u16,
 ) -> u16
     ensures { λ r. ⌜ r
-        ≡ given (lent (now (children .entry)) (now (labels .entry)) (now (cares .entry)) (now (own .entry)) far) word label ⌝ }
+        ≡ given (masksLent (now (children .entry)) (now (labels .entry)) (now (cares .entry)) (now (own .entry)) far) word label ⌝ }
 {
     let mut bits: u16 = word & far;
     let mut k = 0;
@@ -52,12 +52,12 @@ fn given<'a>(
 }
 
 // The turn of node u with this label, whose parent is node up: the parent's word takes what the node gives.
-pub fn turn<'a>(
+pub fn turn(
     words: &mut [u16],
-    children: &'a [u16; MOST_STEPS + 1],
-    labels: &'a [u16; MOST_STEPS],
-    cares: &'a [u16; MOST_STEPS],
-    own: &'a [u16; MOST_STEPS],
+    children: &[u16; MOST_STEPS + 1],
+    labels: &[u16; MOST_STEPS],
+    cares: &[u16; MOST_STEPS],
+    own: &[u16; MOST_STEPS],
     far: u16,
     u: usize,
     up: usize,
@@ -65,7 +65,7 @@ pub fn turn<'a>(
 )
     requires { ⌜ (u < length (now words)) × (up < length (now words)) ⌝ }
     ensures { λ r. ⌜ now (words .exit)
-        ≡ turned (lent (now (children .entry)) (now (labels .entry)) (now (cares .entry)) (now (own .entry)) far) (now (words .entry)) u up label ⌝ }
+        ≡ turned (masksLent (now (children .entry)) (now (labels .entry)) (now (cares .entry)) (now (own .entry)) far) (now (words .entry)) u up label ⌝ }
 {
     let gives = given(children, labels, cares, own, far, words[u], label);
     words[up] = words[up] | gives;

@@ -1,4 +1,4 @@
-// What stands at a place in lent bytes: a byte, a number of two bytes, the end.
+// What stands at a place in lent bytes: a byte, a number of two bytes, the end; and a count within its limit.
 use base::Cur;
 use meaning::BYTES_REMAIN;
 ghost use mathlib.Core.Path.{_≡_};

@@ -4,13 +4,13 @@ use mathlib.Core.Path.{_≡_, refl}
 use native.Mathlib.Omega.{arith}
 use lib.ListN.{length}
 use Rattle.matching.specs.Document.{filled, filled-goes-on, parent-lower}
-use Rattle.matching.specs.NodeTurns.{lent, length-kept}
+use Rattle.matching.specs.NodeTurns.{masksLent, length-kept}
 use Rattle.matching.proofs.fill.Statement.{statement}
 use Rattle.matching.proofs.fill.Tie as tie
 
 abbrev Inv-loop : tie.InvT-loop
 Inv-loop words₀ d at n children labels cares own far children-here labels-here cares-here own-here u₀ words u =
-    let m = lent children labels cares own far in
+    let m = masksLent children labels cares own far in
     (u ≤ n) × (length words ≡ length words₀) × (filled m d at u words ≡ filled m d at n words₀)
 
 abbrev μ-loop : tie.MeasureT-loop
@@ -38,7 +38,7 @@ loop-again c =
     let turned = c .before .before .turn .ensures in
     let up = c .before .before .before .before .before .before .before .before .before .two-bytes .ensures in
     let a = l .before .before .before .before .before .before .before .args in
-    let m = lent (a .children .now) (a .labels .now) (a .cares .now) (a .own .now) (a .far) in
+    let m = masksLent (a .children .now) (a .labels .now) (a .cares .now) (a .own .now) (a .far) in
     let kept = length-kept m _ _ _ _ turned (l .loop .inv .1) in
     (omega arith, kept, filled-goes-on m _ _ _ (l .loop .u - 1) (omega arith) up refl turned (l .loop .inv .2))
 

@@ -21,33 +21,32 @@ abbrev μ-loop : tie.MeasureT-loop
 loop-holds : tie.Need-loop-holds Inv-loop μ-loop
 loop-holds c = (omega arith, masks-start (stepsIn _))
 
-mul-mark : tie.Need-mul-mark Inv-loop μ-loop
-unfolding stepIn
-mul-mark c = let l = c .before .before .before in omega (arith, parent-low _ (l .before .pre) (l .loop .k) (omega arith))
-
-element-copy-out-mark : tie.Need-element-copy-out-mark Inv-loop μ-loop
-unfolding stepIn
-element-copy-out-mark c = let l = c .before .before .before in omega (arith, parent-low _ (l .before .pre) (l .loop .k) (omega arith))
-
 mul-m : tie.Need-mul-m Inv-loop μ-loop
 unfolding stepIn
-mul-m c = let l = c .before .before .before .before .before in omega (arith, parent-low _ (l .before .pre) (l .loop .k) (omega arith))
+mul-m c = let l = c .before .before .before in omega (arith, parent-low _ (l .before .pre) (l .loop .k) (omega arith))
+
+element-copy-out-m : tie.Need-element-copy-out-m Inv-loop μ-loop
+unfolding stepIn
+element-copy-out-m c = let l = c .before .before .before in omega (arith, parent-low _ (l .before .pre) (l .loop .k) (omega arith))
+
+mul-m-2 : tie.Need-mul-m-2 Inv-loop μ-loop
+unfolding stepIn
+mul-m-2 c = let l = c .before .before .before .before in omega (arith, parent-low _ (l .before .pre) (l .loop .k) (omega arith))
 
 element-write-m : tie.Need-element-write-m Inv-loop μ-loop
 unfolding stepIn
-element-write-m c = let l = c .before .before .before .before .before in omega (arith, parent-low _ (l .before .pre) (l .loop .k) (omega arith))
+element-write-m c = let l = c .before .before .before .before in omega (arith, parent-low _ (l .before .pre) (l .loop .k) (omega arith))
 
 loop-again : tie.Need-loop-again Inv-loop μ-loop
 unfolding stepIn
 loop-again c =
-    let l = c .before .before .before .before .before .before .before .before .before in
+    let l = c .before .before .before .before .before .before .before .before in
     let sound = l .before .pre in
     let here = sym (step-at _ sound (l .loop .k) (omega arith)) in
     let low = parent-low _ sound (l .loop .k) (omega arith) in
     let few : l .loop .k < mostSteps = omega arith in
     let bit : 1 * 2 ^ l .loop .k % 65536 ≡ 2 ^ l .loop .k = shl-exact 1 (l .loop .k) 16 (omega arith) (omega arith) ∙ omega arith in
-    let kids = c .before .before .before .before .mark .ensures in
-    (omega arith, masks-go-on _ _ _ few (l .loop .inv .1) here (omega arith) kids (c .before .before .cares-for .ensures) bit (c .mark2 .ensures))
+    (omega arith, masks-go-on _ _ _ few (l .loop .inv .1) here (omega arith) bit (c .before .before .cares-for .ensures) (c .mark .ensures))
 
 returns : tie.Need-returns Inv-loop μ-loop
 returns c =
@@ -61,13 +60,12 @@ masks-of-spec =
     Inv-loop
     μ-loop
     loop-holds
-    (λ c. omega arith) (λ c. omega arith) (λ c. search needs)
-    mul-mark
-    element-copy-out-mark
-    (λ c κs. omega arith)
+    (λ c. omega arith) (λ c. omega arith) (λ c. search needs) (λ c. omega arith) (λ c. omega arith)
     mul-m
+    element-copy-out-m
+    mul-m-2
     element-write-m
-    (λ c. search needs) (λ c. omega arith) (λ c. omega arith) (λ c κs. search needs) (λ c. omega arith) (λ c. omega arith) (λ c. omega arith)
-    (λ c. omega arith) (λ c. omega arith) (λ c. omega arith) (λ c κs. omega arith) (λ c. omega arith) (λ c. omega arith)
+    (λ c. search needs) (λ c. omega arith) (λ c. omega arith) (λ c κs. search needs) (λ c. omega arith) (λ c. omega arith)
+    (λ c. omega arith) (λ c. omega arith) (λ c κs. omega arith) (λ c. omega arith) (λ c. omega arith)
     loop-again
     returns)

@@ -6,13 +6,13 @@ use borrow.Author.Needs.{needs}
 use Rattle.base.specs.Loops.{foldN}
 use Rattle.base.specs.Along.{foldN-goes-on, foldN-ends}
 use Rattle.meaning.specs.Numbers.{mostSteps}
-use Rattle.matching.specs.NodeTurns.{lent, oneGiven, withGiven, given}
+use Rattle.matching.specs.NodeTurns.{masksLent, oneGiven, withGiven, given}
 use Rattle.matching.proofs.turn.given.Statement.{statement}
 use Rattle.matching.proofs.turn.given.Tie as tie
 
 abbrev Inv-loop : tie.InvT-loop
 Inv-loop children labels cares own far word label bits₀ k₀ bits k =
-    let m = lent children labels cares own far in
+    let m = masksLent children labels cares own far in
     foldN (withGiven m word label) (mostSteps - k) k bits ≡ given m word label
 
 abbrev μ-loop : tie.MeasureT-loop
@@ -27,7 +27,7 @@ unfolding oneGiven withGiven
 loop-again c =
     let l = c .before .before .before .before .before .before .before in
     let a = l .before .args in
-    let m = lent (a .children .now) (a .labels .now) (a .cares .now) (a .own .now) (a .far) in
+    let m = masksLent (a .children .now) (a .labels .now) (a .cares .now) (a .own .now) (a .far) in
     let one : c .bit-where .result ≡ oneGiven m (a .word) (a .label) (l .loop .k) =
     rw (c .before .has-all .ensures) at (c .bit-where .ensures) in
     rw one (foldN-goes-on _ mostSteps (l .loop .k) (l .loop .bits) _ (omega arith) (l .loop .inv))
