@@ -15,7 +15,7 @@ static unsigned case_count, question_count;
 static const Shape bushy = {16, 50, 25, false};
 static const Shape far_chain = {16, 100, 25, true};
 static const Shape subscription = {8, 50, 25, false};
-enum { FEW_LABELS = 3, LABELS = 8, DOCUMENTS = 64, PAIRS = 16 };
+enum { FEW_LABELS = 3, LABELS = 8, PAIRS = 16 };
 
 // ---- putting sections, cases and questions
 

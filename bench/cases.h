@@ -4,6 +4,9 @@
 
 #include "sides.h"
 
+// A row about documents asks of so many: of a few the processor learns the jumps by heart.
+enum { DOCUMENTS = 64 };
+
 // One row: some questions of one kind, asked in turn.
 typedef struct {
     char name[72];
@@ -12,7 +15,7 @@ typedef struct {
 } Case;
 
 // Rows under a title. Where they grow, each asks for twice as much as the row before. Where they stand beside cells,
-// these are timed too.
+// the matcher by cells is timed too.
 typedef struct {
     const char *title;
     bool grows, beside_cells;

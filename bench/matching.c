@@ -2,6 +2,7 @@
 // its children, so a walk down the numbers finds each word complete.
 #include "by_hand.h"
 
+// From a table: of `1 << k` the compiler makes ragged vectors.
 static const uint16_t bits[MOST_STEPS] = {1,   2,   4,    8,    16,   32,   64,    128,
                                           256, 512, 1024, 2048, 4096, 8192, 16384, 32768};
 
@@ -31,7 +32,7 @@ static void make_masks(Masks *masks, const Pattern *pattern)
 }
 
 // What a node with this word and label gives to its parent. Nothing branches, and steps that are not there have their
-// turn too, so that the compiler makes vectors of the loop. The own bit is loaded, since `1 << k` makes ragged ones.
+// turn too, so that the compiler makes vectors of the loop.
 static uint16_t given(const Masks *masks, uint16_t word, uint16_t label)
 {
     uint16_t gives = word & masks->far;

@@ -3,7 +3,7 @@
 #include "inputs.h"
 #include "tables.h"
 
-enum { MOST_QUESTIONS = 2048, DOCUMENTS = 64 };
+enum { MOST_QUESTIONS = 2048, MOST_DRAWS = 1000 };
 
 static Question questions[MOST_QUESTIONS];
 static unsigned question_count;
@@ -93,15 +93,17 @@ static void check_kind(const Kind *kind, const Pair *pair)
     }
 }
 
-// Where another member matches by chance the document is drawn again.
+// Where another member matches by chance the document is drawn again; past so many draws it was not by chance.
 static Part document_of_kind(const Kind *kind, unsigned nodes, Part sheet, Part table)
 {
     static Answer route;
     Question question = {TABLE_ROUTE, .sheet = sheet, .table = table};
-    do {
+    for (unsigned draws = 0; draws < MOST_DRAWS; draws++) {
         question.document = planted_document(nodes, kind->planted);
         ask_afresh(&route, &sides[0], &question);
-    } while (route.value != kind->delivered);
+        if (route.value == kind->delivered)
+            break;
+    }
     return question.document;
 }
 

@@ -4,7 +4,7 @@
 #include "cases.h"
 #include "inputs.h"
 
-enum { LABELS = 8, DOCUMENTS = 64 };
+enum { LABELS = 8 };
 
 static const char *const names[] = {[WIDE] = "wide", [DEEP] = "deep", [CHAIN] = "a chain"};
 

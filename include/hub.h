@@ -19,8 +19,8 @@
  * bytes stay as they are during the call. They are only read, and nothing is kept after the call, so calls may be made
  * from several threads at once.
  *
- * Nothing is allocated. A call takes stack: hub_sheet_check under 1 KB, hub_plain_route under 20 KB, hub_table_route
- * and hub_wanted under 40 KB. These are measured on the deepest inputs, not proved; `bench/run` prints them.
+ * Nothing is allocated. A call takes stack: hub_sheet_check under 1 KB, hub_plain_route under 4 KB, hub_table_route
+ * and hub_wanted under 12 KB. These are measured on the deepest inputs, not proved; `bench/run` prints them.
  */
 #ifndef HUB_H
 #define HUB_H

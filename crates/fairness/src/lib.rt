@@ -106,24 +106,24 @@ fn stands(
     found == 1
 }
 
-// Is each subscription, the patterns at these places of the sheet, in exactly one entry, and does that entry cover it?
+// Is each subscription in exactly one entry, and does that entry cover it?
 fn all_stand(
     s: &[u8],
-    subscribed: usize,
-    patterns: &[usize; MOST_PATTERNS],
-    t: &[u8],
     count: usize,
-    places: &[usize; MOST_ENTRIES],
+    places: &[usize; MOST_PATTERNS],
+    t: &[u8],
+    entry_count: usize,
+    entry_places: &[usize; MOST_ENTRIES],
     members: &[u64; MOST_ENTRIES],
 ) -> bool
-    requires { ⌜ SubscriptionsStand (now s) (subscriptionsLent subscribed (now patterns)) × EntriesStand (now t) (entriesLent count (now places))
-        × MembersStand (now t) (entriesLent count (now places)) (now members) ⌝ }
+    requires { ⌜ SubscriptionsStand (now s) (subscriptionsLent count (now places)) × EntriesStand (now t) (entriesLent «entry_count» (now «entry_places»))
+        × MembersStand (now t) (entriesLent «entry_count» (now «entry_places»)) (now members) ⌝ }
     ensures { λ r. ⌜ r ≡ eachInOne 0 (sheetAt (now (s .entry)) .patterns) (tableAt (now (t .entry))) ⌝ }
 {
     let mut i = 0;
-    while i < subscribed {
-        let p = pattern_at(s, patterns[i]);
-        if !stands(t, count, places, members, i, p) {
+    while i < count {
+        let p = pattern_at(s, places[i]);
+        if !stands(t, entry_count, entry_places, members, i, p) {
             return false;
         }
         i += 1;
@@ -137,20 +137,20 @@ fn is_fair(s: &[u8], t: &[u8]) -> bool
     ensures { λ r. ⌜ r ≡ fairAt (now (s .entry)) (now (t .entry)) ⌝ }
 {
     let subscriptions = subscriptions_in(s);
-    let subscribed = subscriptions.count;
+    let count = subscriptions.count;
     let entries = entries_in(t);
-    let count = entries.count;
-    if !all_fit(t, count, &entries.places, subscribed) {
+    let entry_count = entries.count;
+    if !all_fit(t, entry_count, &entries.places, count) {
         return false;
     }
     let mut members: [u64; MOST_ENTRIES] = [0; MOST_ENTRIES];
-    take_members(&mut members, t, count, &entries.places);
+    take_members(&mut members, t, entry_count, &entries.places);
     all_stand(
         s,
-        subscribed,
+        count,
         &subscriptions.places,
         t,
-        count,
+        entry_count,
         &entries.places,
         &members,
     )

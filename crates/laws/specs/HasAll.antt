@@ -22,7 +22,7 @@ unfolding hasAll
 has-each h m i all e =
     and-first (isMember h i) (isMember m i) (sym (member-and h m i) ∙ ap (λ (w : ℕ). isMember w i) (eqb-true (bitAnd h m) m all) ∙ e)
 
--- a number is below that power of two, so it has no bit from its own on
+-- n is below 2 ^ n, so that n bits decide which number it is
 below-power : (n : ℕ) → n < 2 ^ n
 below-power zero = omega arith
 below-power (suc n) = omega (arith, below-power n, pow-suc 2 n)

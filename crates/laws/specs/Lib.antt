@@ -27,10 +27,11 @@ pub mod MergeCovers
 pub mod MergeSize
 pub mod MergeLabels
 pub mod MergeNears
--- building and fairness
+-- sets and words as bits
 pub mod MemberBits
 pub mod Marks
 pub mod HasAll
+-- building and fairness
 pub mod Unions
 pub mod Settling
 pub mod Chosen

@@ -1,4 +1,5 @@
--- A set of subscriptions is made by marking one after the other: its members, its bound, and the delivery set of answers.
+-- A set is made by marking one member after the other: its members, its bound, and the delivery set of answers. So are the
+-- matcher's words, whose members are steps.
 use Prim.Native.Nat.{ℕ, zero, suc, _+_, _*_, _/_, _%_, _^_, _<_}
 use mathlib.Core.Path.{_≡_, refl, sym, ap, _∙_}
 use mathlib.Core.Logic.{⊎-elim}

@@ -1,4 +1,5 @@
-// The route by a table: its entries are tried, and the members of each that matches.
+// The route by a table: its entries are tried, and the members of each that matches. The tables of places are lent, each
+// with its count: a copy would take half a kilobyte of stack for each call on the way.
 use matching::Tried;
 use matching::try_pattern;
 use meaning::MOST_ENTRIES;
@@ -76,8 +77,8 @@ fn ask_member(
 // All members are tried.
 fn ask_members(
     s: &[u8],
-    places: &[usize; MOST_PATTERNS],
     count: usize,
+    places: &[usize; MOST_PATTERNS],
     d: &[u8],
     at: usize,
     n: usize,
@@ -100,8 +101,8 @@ fn ask_members(
 // An entry is tried, and all its members if it matches.
 fn ask_entry(
     s: &[u8],
-    places: &[usize; MOST_PATTERNS],
     count: usize,
+    places: &[usize; MOST_PATTERNS],
     d: &[u8],
     at: usize,
     n: usize,
@@ -117,7 +118,7 @@ fn ask_entry(
         tried: asked.tried,
     };
     if asked.yes {
-        return ask_members(s, places, count, d, at, n, e.members, so_far);
+        return ask_members(s, count, places, d, at, n, e.members, so_far);
     }
     so_far
 }
@@ -125,11 +126,11 @@ fn ask_entry(
 // All entries are tried, and the members of each that matches.
 pub fn ask_entries(
     s: &[u8],
-    places: &[usize; MOST_PATTERNS],
     count: usize,
+    places: &[usize; MOST_PATTERNS],
     t: &[u8],
-    entry_places: &[usize; MOST_ENTRIES],
     entry_count: usize,
+    entry_places: &[usize; MOST_ENTRIES],
     d: &[u8],
     at: usize,
     n: usize,
@@ -142,7 +143,7 @@ pub fn ask_entries(
     let mut j = 0;
     while j < entry_count {
         let e = entry_at(t, entry_places[j]);
-        so_far = ask_entry(s, places, count, d, at, n, e, so_far);
+        so_far = ask_entry(s, count, places, d, at, n, e, so_far);
         j += 1;
     }
     so_far

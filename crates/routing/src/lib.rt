@@ -118,11 +118,11 @@ pub fn table_route(s: &[u8], t: &[u8], d: &[u8]) -> Tabled
             let entry_count = entries.count;
             let route = ask_entries(
                 s,
-                &subscriptions.places,
                 count,
+                &subscriptions.places,
                 t,
-                &entries.places,
                 entry_count,
+                &entries.places,
                 d,
                 node_place(d),
                 node_count(d),
@@ -148,11 +148,11 @@ fn seek(s: &[u8], t: &[u8], d: &[u8]) -> Sought
             let entry_count = entries.count;
             let asked = seek_entries(
                 s,
-                &subscriptions.places,
                 count,
+                &subscriptions.places,
                 t,
-                &entries.places,
                 entry_count,
+                &entries.places,
                 d,
                 node_place(d),
                 node_count(d),

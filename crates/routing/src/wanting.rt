@@ -23,8 +23,8 @@ ghost use Rattle.routing.specs.Wanting.{askInTurn};
 // Members are tried until one matches.
 fn seek_members(
     s: &[u8],
-    places: &[usize; MOST_PATTERNS],
     count: usize,
+    places: &[usize; MOST_PATTERNS],
     d: &[u8],
     at: usize,
     n: usize,
@@ -54,8 +54,8 @@ fn seek_members(
 // An entry is tried, and if it matches its members until one does. That the entry matches decides nothing.
 fn seek_entry(
     s: &[u8],
-    places: &[usize; MOST_PATTERNS],
     count: usize,
+    places: &[usize; MOST_PATTERNS],
     d: &[u8],
     at: usize,
     n: usize,
@@ -67,7 +67,7 @@ fn seek_entry(
 {
     let asked = try_pattern(d, at, n, e.pattern, tried);
     if asked.yes {
-        return seek_members(s, places, count, d, at, n, e.members, asked.tried);
+        return seek_members(s, count, places, d, at, n, e.members, asked.tried);
     }
     asked
 }
@@ -75,11 +75,11 @@ fn seek_entry(
 // Entries are tried until a member of one matches: whether one does, and how many patterns were tried.
 pub fn seek_entries(
     s: &[u8],
-    places: &[usize; MOST_PATTERNS],
     count: usize,
+    places: &[usize; MOST_PATTERNS],
     t: &[u8],
-    entry_places: &[usize; MOST_ENTRIES],
     entry_count: usize,
+    entry_places: &[usize; MOST_ENTRIES],
     d: &[u8],
     at: usize,
     n: usize,
@@ -93,7 +93,7 @@ pub fn seek_entries(
     let mut j = 0;
     while j < entry_count {
         let e = entry_at(t, entry_places[j]);
-        let asked = seek_entry(s, places, count, d, at, n, e, so_far);
+        let asked = seek_entry(s, count, places, d, at, n, e, so_far);
         if asked.yes {
             return asked;
         }

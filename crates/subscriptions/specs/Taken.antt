@@ -16,7 +16,7 @@ use Rattle.meaning.specs.Numbers.{mostPatterns, mostSteps}
 unfoldable pub stepsFilled : List ℕ → ℕ → ℕ → List Step
 stepsFilled s p n = stepsAt s p n ++ drop n (noSteps .steps)
 
--- the pattern at x: its steps and no others; none where the count or the bytes don't allow it
+-- the pattern at x: its steps, and empty ones behind them; none where the count or the bytes don't allow it
 unfoldable pub patternAt : List ℕ → ℕ → Pattern
 patternAt s x =
     pick (ltb x (length s))

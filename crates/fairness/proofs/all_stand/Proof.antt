@@ -11,10 +11,10 @@ use Rattle.fairness.proofs.all_stand.Statement.{statement}
 use Rattle.fairness.proofs.all_stand.Tie as tie
 
 abbrev Inv-loop : tie.InvT-loop
-Inv-loop s subscribed patterns t count places members i₀ i = StandingFrom s (subscriptionsLent subscribed patterns) (tableAt t) i
+Inv-loop s count places t entry-count entry-places members i₀ i = StandingFrom s (subscriptionsLent count places) (tableAt t) i
 
 abbrev μ-loop : tie.MeasureT-loop
-μ-loop s subscribed patterns t count places members i₀ i = subscribed - i
+μ-loop s count places t entry-count entry-places members i₀ i = count - i
 
 loop-holds : tie.Need-loop-holds Inv-loop μ-loop
 loop-holds c = standing-starts (c .before .before .pre .0)

@@ -10,10 +10,10 @@ use Rattle.routing.proofs.by_table.ask_members.Statement.{statement}
 use Rattle.routing.proofs.by_table.ask_members.Tie as tie
 
 abbrev Inv-loop : tie.InvT-loop
-Inv-loop s places count d at n members so-far₀ i₀ so-far i = TryingMembers (nodesAt d at n) (sheetAt s .patterns) members so-far₀ i so-far
+Inv-loop s count places d at n members so-far₀ i₀ so-far i = TryingMembers (nodesAt d at n) (sheetAt s .patterns) members so-far₀ i so-far
 
 abbrev μ-loop : tie.MeasureT-loop
-μ-loop s places count d at n members so-far₀ i₀ so-far i = count - i
+μ-loop s count places d at n members so-far₀ i₀ so-far i = count - i
 
 loop-holds : tie.Need-loop-holds Inv-loop μ-loop
 loop-holds c = members-start

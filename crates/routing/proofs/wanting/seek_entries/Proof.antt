@@ -11,10 +11,10 @@ use Rattle.routing.proofs.wanting.seek_entries.Statement.{statement}
 use Rattle.routing.proofs.wanting.seek_entries.Tie as tie
 
 abbrev Inv-loop : tie.InvT-loop
-Inv-loop s places count t entry-places entry-count d at n so-far₀ j₀ so-far j = SeekingEntries (nodesAt d at n) (sheetAt s .patterns) (tableAt t) j so-far
+Inv-loop s count places t entry-count entry-places d at n so-far₀ j₀ so-far j = SeekingEntries (nodesAt d at n) (sheetAt s .patterns) (tableAt t) j so-far
 
 abbrev μ-loop : tie.MeasureT-loop
-μ-loop s places count t entry-places entry-count d at n so-far₀ j₀ so-far j = entry-count - j
+μ-loop s count places t entry-count entry-places d at n so-far₀ j₀ so-far j = entry-count - j
 
 loop-holds : tie.Need-loop-holds Inv-loop μ-loop
 loop-holds c = seeking-entries-starts

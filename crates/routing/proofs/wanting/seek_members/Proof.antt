@@ -10,10 +10,10 @@ use Rattle.routing.proofs.wanting.seek_members.Statement.{statement}
 use Rattle.routing.proofs.wanting.seek_members.Tie as tie
 
 abbrev Inv-loop : tie.InvT-loop
-Inv-loop s places count d at n members tried so-far₀ i₀ so-far i = SeekingMembers (nodesAt d at n) (sheetAt s .patterns) members tried i so-far
+Inv-loop s count places d at n members tried so-far₀ i₀ so-far i = SeekingMembers (nodesAt d at n) (sheetAt s .patterns) members tried i so-far
 
 abbrev μ-loop : tie.MeasureT-loop
-μ-loop s places count d at n members tried so-far₀ i₀ so-far i = count - i
+μ-loop s count places d at n members tried so-far₀ i₀ so-far i = count - i
 
 loop-holds : tie.Need-loop-holds Inv-loop μ-loop
 loop-holds c = seeking-starts
