@@ -20,10 +20,10 @@ ghost use Rattle.matching.specs.Nodes.{parentFrom};
 ghost use Rattle.matching.specs.NodeTurns.{masksLent};
 ghost use Rattle.matching.specs.Document.{filled, TopWord};
 
-// So many words are enough for a document of fewer nodes, and sooner cleared than those of any document.
-const FEW_WORDS: usize = 64;
+// A document of at most so many nodes has its words in an array of its own, which is sooner cleared than that for any.
+const FEW_NODES: usize = 64;
 
-const SOME_WORDS: usize = 256;
+const SOME_NODES: usize = 256;
 
 // The parent of the node at a place: two bytes, the low byte first.
 fn two_bytes(d: &[u8], a: usize) -> usize
@@ -88,13 +88,13 @@ fn word_at_top<'a>(
     requires { ⌜ (n ≤ mostNodes) × (at + 3 * n ≤ length (now d)) × Rising (parentsOf (nodesAt (now d) at n)) ⌝ }
     ensures { λ r. ⌜ TopWord (masksLent (now (children .entry)) (now (labels .entry)) (now (cares .entry)) (now (own .entry)) far) (now (d .entry)) at n r ⌝ }
 {
-    if n < FEW_WORDS {
-        let mut words: [u16; FEW_WORDS] = [0; FEW_WORDS];
+    if n <= FEW_NODES {
+        let mut words: [u16; FEW_NODES + 1] = [0; FEW_NODES + 1];
         fill(&mut words, d, at, n, children, labels, cares, own, far);
         return words[0];
     }
-    if n < SOME_WORDS {
-        let mut words: [u16; SOME_WORDS] = [0; SOME_WORDS];
+    if n <= SOME_NODES {
+        let mut words: [u16; SOME_NODES + 1] = [0; SOME_NODES + 1];
         fill(&mut words, d, at, n, children, labels, cares, own, far);
         return words[0];
     }

@@ -7,10 +7,10 @@ use Rattle.matching.proofs.word_at_top.Statement.{statement}
 use Rattle.matching.proofs.word_at_top.Tie as tie
 
 returns : tie.Need-returns
-returns c = record { size = 64; enough = omega arith; at-top = ap (λ words. getD words 0 0) (c .before .fill .ensures) }
+returns c = record { size = 65; enough = omega arith; at-top = ap (λ words. getD words 0 0) (c .before .fill .ensures) }
 
 returns-2 : tie.Need-returns-2
-returns-2 c = record { size = 256; enough = omega arith; at-top = ap (λ words. getD words 0 0) (c .before .fill2 .ensures) }
+returns-2 c = record { size = 257; enough = omega arith; at-top = ap (λ words. getD words 0 0) (c .before .fill2 .ensures) }
 
 returns-3 : tie.Need-returns-3
 returns-3 c = record { size = 1025; enough = omega arith; at-top = ap (λ words. getD words 0 0) (c .before .fill3 .ensures) }
