@@ -20,7 +20,7 @@
  * from several threads at once.
  *
  * Nothing is allocated. A call takes stack: hub_sheet_check under 1 KB, hub_plain_route under 4 KB, hub_table_route
- * and hub_wanted under 12 KB. These are measured on the deepest inputs, not proved; `bench/run` prints them.
+ * and hub_wanted under 13 KB. These are measured on the deepest inputs, not proved; `bench/run` prints them.
  */
 #ifndef HUB_H
 #define HUB_H
