@@ -85,9 +85,11 @@ module _ (ns : List Node) (ss : List Step) (rising : Rising (parentsOf ns)) wher
   -- a child of t that fits the step, or below which a far step holds, gives it
   gives-fitting : (t k w : ℕ) → 1 ≤ w → w ≤ length ns → isChild (parentsOf ns) t w ≡ true → nodeFits ns ss k w ≡ true → givenBelow ns ss t k ≡ true
   unfolding givenBy givesUp
-  gives-fitting t k w low high c f = some-number-of _ 1 (length ns) w low (omega arith) (and-both _ _ c (or-second (isFar (stepAt ss k) && stepHolds ns ss w k) _ f))
+  gives-fitting t k w low high c f =
+      some-number-of _ 1 (length ns) w low (omega arith) (and-both _ _ c (or-second (isFar (stepAt ss k) && stepHolds ns ss w k) _ f))
 
-  gives-far : (t k w : ℕ) → w ≤ length ns → isChild (parentsOf ns) t w ≡ true → isFar (stepAt ss k) ≡ true → stepHolds ns ss w k ≡ true → givenBelow ns ss t k ≡ true
+  gives-far : (t k w : ℕ) → w ≤ length ns → isChild (parentsOf ns) t w ≡ true → isFar (stepAt ss k) ≡ true → stepHolds ns ss w k ≡ true
+      → givenBelow ns ss t k ≡ true
   unfolding givenBy givesUp
   gives-far t k w high c y h =
       let above = child-above (parentsOf ns) rising t w (omega (arith, length-parentsOf ns)) c in

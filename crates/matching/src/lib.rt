@@ -74,7 +74,8 @@ fn fill(
     }
 }
 
-// The top's word when all nodes have had their turn. The masks are fields of one struct, so they are lent for one lifetime.
+// The top's word when all nodes have had their turn. The masks are fields of one struct, so they are lent for one
+// lifetime.
 fn word_at_top<'a>(
     d: &[u8],
     at: usize,

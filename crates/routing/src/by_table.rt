@@ -1,5 +1,5 @@
-// The route by a table: its entries are tried, and the members of each that matches. The tables of places are lent, each
-// with its count: a copy would take half a kilobyte of stack for each call on the way.
+// The route by a table: its entries are tried, and the members of each that matches. The tables of places are lent,
+// each with its count: a copy would take half a kilobyte of stack for each call on the way.
 use matching::Tried;
 use matching::try_pattern;
 use meaning::MOST_ENTRIES;
@@ -109,7 +109,8 @@ fn ask_entry(
     e: Entry,
     route: Route,
 ) -> Route
-    requires { ⌜ SubscriptionsStand (now s) (subscriptionsLent count (now places)) × NodesStand (now d) at n × WellFormed (e .pattern) × (route .tried < 2 ^ 30) ⌝ }
+    requires { ⌜ SubscriptionsStand (now s) (subscriptionsLent count (now places)) × NodesStand (now d) at n × WellFormed (e .pattern)
+        × (route .tried < 2 ^ 30) ⌝ }
     ensures { λ r. ⌜ r ≡ askEntry (nodesAt (now (d .entry)) at n) (sheetAt (now (s .entry)) .patterns) (entryOf e) route ⌝ }
 {
     let asked = try_pattern(d, at, n, e.pattern, route.tried);
