@@ -1,4 +1,6 @@
 // The calls that work on a sheet's own patterns: does one cover another, the merge of two, the table for a limit.
+#![tactic(auto)]
+
 mod covered; // covered.rt: does one cover another
 mod merged; // merged.rt: the merge of two, written
 pub mod built; // built.rt: the table for a limit, written

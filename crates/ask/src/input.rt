@@ -4,28 +4,28 @@ ghost use Rattle.io.specs.Counts.{IsPrefixLen};
 use libc::STDIN_FILENO;
 
 // What stands where a question may begin.
-#[derive(Drop)]
+#[derive(Clone, Copy)]
 pub enum First {
     Letter(u8),
     End,
 }
 
 // A number, or that the input ended inside it.
-#[derive(Drop)]
+#[derive(Clone, Copy)]
 pub enum Long {
     Is(u64),
     Cut,
 }
 
 // A limit, or that the input ended inside it.
-#[derive(Drop)]
+#[derive(Clone, Copy)]
 pub enum Short {
     Is(u16),
     Cut,
 }
 
 // Bytes at the start of a buffer: how many, and whether the part was whole.
-#[derive(Drop)]
+#[derive(Clone, Copy)]
 pub struct Taken {
     pub whole: bool,
     pub count: usize,

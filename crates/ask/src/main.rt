@@ -1,5 +1,7 @@
 // Every call of the hub, asked by a stream of questions on standard input and answered by a line each on standard output.
 // A question is a letter and its parts: bytes after a length of two, numbers of eight bytes, limits and rooms of two.
+#![tactic(auto)]
+
 mod calls; // calls.rt: the call of each letter, and its line
 mod input; // input.rt: the parts of a question
 mod output; // output.rt: the values of a line

@@ -1,4 +1,6 @@
 // Building a table for a limit: settling, rounds, and how many rounds there were, with the entries by value.
+#![tactic(auto)]
+
 pub mod rounds; // rounds.rt: the pair that saves most, the cut, a round
 
 ghost use Rattle.std.specs.Prelude.{◌≡◌, ◌+◌, ◌≤◌, ◌<◌};
@@ -11,7 +13,7 @@ use settling::settle;
 use shapes::{Table, steps_together};
 
 // A table and the number of rounds that made it.
-#[derive(Drop)]
+#[derive(Clone, Copy)]
 pub struct Made {
     pub table: Table,
     pub rounds: usize,

@@ -13,7 +13,7 @@ use settling::settle;
 use shapes::{Pattern, Table};
 
 // The pair that saves most so far, and how many steps it saves; 0 where none does.
-#[derive(Drop)]
+#[derive(Clone, Copy)]
 pub struct Best {
     pub saved: usize,
     pub i: usize,

@@ -1,4 +1,6 @@
 // Whether one pattern covers another: whether its steps can be laid onto the other's.
+#![tactic(auto)]
+
 pub mod steps; // steps.rt: where one step may lie, by itself
 
 ghost use Rattle.std.specs.Prelude.{◌≡◌, ◌≤◌, ◌<◌, length, set};

@@ -1,5 +1,7 @@
 // Reading documents beside a sheet: labels and nodes are judged by places in the lent bytes (specs/DocumentSection.antt),
 // and what that gives is what a document means.
+#![tactic(auto)]
+
 ghost use Rattle.std.specs.Prelude.{◌≡◌, ◌+◌, ◌<◌};
 ghost use Rattle.base.specs.Loops.{run};
 ghost use Rattle.meaning.specs.Sections.{node_parent};

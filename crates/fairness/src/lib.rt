@@ -1,5 +1,7 @@
 // The table check: whether a table is fair beside its sheet. Places and members are lent, with their count beside them:
 // by value each call would copy them on the stack.
+#![tactic(auto)]
+
 ghost use Rattle.std.specs.Prelude.{◌≤◌, ◌<◌, ◌≡◌, length};
 ghost use Rattle.base.specs.Lists.{every};
 ghost use Rattle.meaning.specs.Numbers.{most_entries, most_patterns};

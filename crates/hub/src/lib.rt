@@ -1,4 +1,6 @@
 // The hub's calls: any bytes and any numbers in, an answer out. None requires anything.
+#![tactic(auto)]
+
 ghost use Rattle.meaning.specs.Given.{asked_given, merged_given, built_given, lined_given, output_given, routed_given, tabled_given};
 ghost use Rattle.meaning.specs.Promises.{SheetCheckGives, DocumentCheckGives, TableCheckGives, MatchesGives, CoversGives, MergeGives, BuildGives};
 ghost use Rattle.meaning.specs.Promises.{ReadLineGives, WritePatternGives, WriteSubscriptionGives};

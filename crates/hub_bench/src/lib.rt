@@ -1,5 +1,7 @@
 // The calls that the benchmark times beside those of the print server: covering, merging, building, and lines of the notation
 // read and written.
+#![tactic(auto)]
+
 ghost use Rattle.meaning.specs.Given.{by_number};
 ghost use Rattle.meaning.specs.Promises.{CoversGives, MergeGives, BuildGives};
 ghost use Rattle.meaning.specs.Promises.{ReadLineGives, WritePatternGives, WriteSubscriptionGives};
@@ -8,7 +10,7 @@ use meaning::{Asked, Built, Lined, Merged, Output};
 
 // Whether one subscription covers another: the number, and yes or no.
 #[repr(C)]
-#[derive(Drop)]
+#[derive(Clone, Copy)]
 pub struct Covering {
     pub number: u8,
     pub said: bool,
@@ -16,7 +18,7 @@ pub struct Covering {
 
 // A merge: the number, the mark, and how many bytes were written.
 #[repr(C)]
-#[derive(Drop)]
+#[derive(Clone, Copy)]
 pub struct Merging {
     pub number: u8,
     pub clipped: bool,
@@ -25,7 +27,7 @@ pub struct Merging {
 
 // A table that was built: the number, the rounds, and how many bytes were written.
 #[repr(C)]
-#[derive(Drop)]
+#[derive(Clone, Copy)]
 pub struct Building {
     pub number: u8,
     pub rounds: u64,
@@ -34,7 +36,7 @@ pub struct Building {
 
 // A line that was read: the number, the place that comes with 13, and how many bytes were written.
 #[repr(C)]
-#[derive(Drop)]
+#[derive(Clone, Copy)]
 pub struct LineReading {
     pub number: u8,
     pub place: u64,
@@ -43,7 +45,7 @@ pub struct LineReading {
 
 // A line that was written: the number, and how many bytes.
 #[repr(C)]
-#[derive(Drop)]
+#[derive(Clone, Copy)]
 pub struct LineWriting {
     pub number: u8,
     pub length: u64,

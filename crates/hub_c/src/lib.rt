@@ -1,5 +1,7 @@
 // The calls of the print server in C: the sheet check, the plain route, the route by a table, and whether anyone wants a document
 // (include/hub.h).
+#![tactic(auto)]
+
 ghost use Rattle.meaning.specs.Given.{by_number};
 ghost use Rattle.meaning.specs.Promises.{SheetCheckGives, PlainRouteGives, TableRouteGives, WantedGives};
 
@@ -7,7 +9,7 @@ use meaning::{Asked, Routed, Tabled};
 
 // The plain route: the number, and the delivery set.
 #[repr(C)]
-#[derive(Drop)]
+#[derive(Clone, Copy)]
 pub struct PlainRoute {
     pub number: u8,
     pub delivered: u64,
@@ -15,7 +17,7 @@ pub struct PlainRoute {
 
 // The route by a table: the number, the delivery set, and how many patterns were tried.
 #[repr(C)]
-#[derive(Drop)]
+#[derive(Clone, Copy)]
 pub struct TableRoute {
     pub number: u8,
     pub delivered: u64,
@@ -24,7 +26,7 @@ pub struct TableRoute {
 
 // Whether at least one shed takes a document: the number, and yes or no.
 #[repr(C)]
-#[derive(Drop)]
+#[derive(Clone, Copy)]
 pub struct Wanted {
     pub number: u8,
     pub wanted: bool,

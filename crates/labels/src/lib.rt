@@ -1,4 +1,6 @@
 // A section of labels: the bytes of each, whether it has occurred before, and the judging of all.
+#![tactic(auto)]
+
 pub mod written; // written.rt: which labels can stand in a line
 
 ghost use Rattle.std.specs.Prelude.{◌≡◌, ◌+◌, ◌≤◌, ◌<◌};

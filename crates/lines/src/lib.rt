@@ -1,4 +1,6 @@
 // Lines of the notation: a line read with a sheet's labels, and its steps written as a pattern.
+#![tactic(auto)]
+
 mod steps; // steps.rt: all bytes, the steps of a line
 mod limit; // limit.rt: the limit of 1,024 bytes
 mod drawn; // drawn.rt: the steps, written as a pattern

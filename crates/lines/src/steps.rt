@@ -19,7 +19,7 @@ const MOST_OPEN: usize = MOST_STEPS + 1;
 
 // What a line gives: the place of its first fault; or, where it is sound, whether every label is known, and its steps, which
 // are whole where 16 or fewer are counted.
-#[derive(Drop)]
+#[derive(Clone, Copy)]
 pub struct Found {
     pub sound: bool,
     pub place: usize,

@@ -1,5 +1,7 @@
 // Whether a document satisfies a pattern, by notes: for each node, and for the top, a word with the steps that hold
 // below it. The nodes go from the last to the first, and each gives to its parent.
+#![tactic(auto)]
+
 mod masks; // masks.rt: a pattern as words
 mod turn; // turn.rt: what a node gives to its parent
 
@@ -113,7 +115,7 @@ pub fn matches(d: &[u8], at: usize, n: usize, p: Pattern) -> bool
 }
 
 // One pattern was asked of one document: the answer, and how many have been asked with it.
-#[derive(Drop)]
+#[derive(Clone, Copy)]
 pub struct Tried {
     pub yes: bool,
     pub tried: usize,

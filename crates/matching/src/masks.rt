@@ -10,7 +10,7 @@ use shapes::Pattern;
 
 // The child steps of each step, and of the root as number 0. At place k, for step k + 1: its label, which bits of a
 // node's label matter to it, and its own bit; all are 0 where there is no such step. And the far steps.
-#[derive(Drop)]
+#[derive(Clone, Copy)]
 pub struct Masks {
     pub children: [u16; MOST_STEPS + 1],
     pub labels: [u16; MOST_STEPS],

@@ -1,4 +1,6 @@
 // The merge of two patterns by value: one of them, or what is built at the pair of their roots.
+#![tactic(auto)]
+
 ghost use Rattle.std.specs.Prelude.{◌+◌, ◌≤◌, ◌≡◌, true, ◌&&◌};
 ghost use Rattle.meaning.specs.Numbers.{most_steps};
 ghost use Rattle.meaning.specs.Merging.{nothing, common_label, through, merge};

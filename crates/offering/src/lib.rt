@@ -1,4 +1,6 @@
 // What is kept at a pair of steps while the merge of two patterns is built, and one candidate offered to it.
+#![tactic(auto)]
+
 ghost use Rattle.std.specs.Prelude.{suc, ◌+◌, ◌-◌, ◌≤◌, ◌<◌, ◌≡◌, ◌||◌, [], ◌∷◌, ◌++◌, length};
 ghost use Rattle.base.specs.Choice.{pick};
 ghost use Rattle.meaning.specs.Numbers.{most_steps};
@@ -18,7 +20,7 @@ use shapes::{Pattern, no_steps};
 
 // A merge: the pattern, and whether a candidate was left out. So too what is being built at a pair, with its kept candidates
 // joined, and a body, whose one root step is near.
-#[derive(Drop)]
+#[derive(Clone, Copy)]
 pub struct Marked {
     pub pattern: Pattern,
     pub clipped: bool,

@@ -1,4 +1,6 @@
 // A body of a merge as bytes and back. A memo of bodies is lent through a recursion, and only an array of bytes can be lent.
+#![tactic(auto)]
+
 ghost use Rattle.std.specs.Prelude.{◌≤◌, ◌≡◌, eqb, get_or};
 ghost use Rattle.shapes.specs.Shapes.{WellFormed};
 ghost use Rattle.shapes.specs.Holding.{Holds};

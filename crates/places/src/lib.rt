@@ -1,4 +1,6 @@
 // What stands at a place in lent bytes: a byte, a number of two bytes, the end; and a count within its limit.
+#![tactic(auto)]
+
 ghost use Rattle.std.specs.Prelude.{◌≡◌, ◌<◌, leb, get_or};
 ghost use Rattle.base.specs.Choice.{pick};
 ghost use Rattle.places.specs.Bytes.{pair_at, end_place};

@@ -1,4 +1,6 @@
 // A table's text: first the totals, then a line for each entry: members ascending, pattern, labels as their bytes.
+#![tactic(auto)]
+
 pub mod printed; // printed.rt: what is printed for a limit and a sheet
 
 ghost use Rattle.std.specs.Prelude.{◌≤◌, ◌≡◌};

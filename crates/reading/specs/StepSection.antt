@@ -82,7 +82,7 @@ module _ (s : List ℕ) (p : ℕ) where
       go : (b : Bool) → pick b true false ≡ (b || false)
       go true = refl
       go false = refl
-  climbs-path q (suc n) (above {c = c} {path = path} z w) h = rw (climbs, ne_eqb c 0 z, eqb-turned c q) (go (eqb q c) (climbs-path q n w (omega arith)))
+  climbs-path q (suc n) (above {c = c} {path = path} z w) h = rw (climbs, ne_eqb c 0 z, eqb-turned c q) (go (eqb q c) (climbs-path {c = get_or s (p + 3 * (c - 1)) 0} {path = path} q n w (omega arith)))
     where
       go : (b : Bool) → climbs s p q n (get_or s (p + 3 * (c - 1)) 0) ≡ some (eqb q) path
           → pick b true (pick false false (climbs s p q n (get_or s (p + 3 * (c - 1)) 0))) ≡ (b || some (eqb q) path)

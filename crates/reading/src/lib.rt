@@ -1,5 +1,7 @@
 // Reading sheets: labels, steps and patterns are judged by places in the lent bytes (specs/SheetSection.antt), and what
 // that gives is what a sheet means.
+#![tactic(auto)]
+
 pub mod steps; // steps.rt: the steps of a pattern
 pub mod patterns; // patterns.rt: a pattern, a section of patterns
 

@@ -20,7 +20,7 @@ use subscriptions::pattern_at;
 use tables::entry_at;
 
 // A route so far: the delivery set, and how many patterns were tried.
-#[derive(Drop)]
+#[derive(Clone, Copy)]
 pub struct Route {
     pub set: u64,
     pub tried: usize,

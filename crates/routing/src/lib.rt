@@ -1,4 +1,6 @@
 // Routing: which subscriptions of a sheet a document is delivered to, and whether there is one.
+#![tactic(auto)]
+
 mod by_table; // by_table.rt: entries tried, and the members of each that matches
 mod wanting; // wanting.rt: the same until a member matches
 
@@ -27,7 +29,7 @@ use subscriptions::{pattern_at, subscriptions_in};
 use tables::entries_in;
 
 // Whether anyone wants a document, and how many patterns were tried until that was known.
-#[derive(Drop)]
+#[derive(Clone, Copy)]
 pub enum Sought {
     Refused(u8),
     Told { yes: bool, tried: usize },

@@ -1,4 +1,6 @@
 // Settling: where entry i covers entry j, j's members go to i and j is removed, until there is no such pair.
+#![tactic(auto)]
+
 pub mod entries; // entries.rt: joining two entries
 
 ghost use Rattle.std.specs.Prelude.{◌≡◌, ◌-◌, ◌<◌, ◌≤◌};

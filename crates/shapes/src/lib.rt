@@ -1,4 +1,6 @@
 // Patterns, entries and tables by value, and what each stands for (specs/Shapes.antt).
+#![tactic(auto)]
+
 ghost use Rattle.std.specs.Prelude.{◌≡◌, ◌≤◌};
 ghost use Rattle.meaning.specs.Building.{steps_together};
 ghost use Rattle.shapes.specs.Shapes.{no_steps, table_of, WellFormedTable};
@@ -6,21 +8,21 @@ ghost use Rattle.shapes.specs.Shapes.{no_steps, table_of, WellFormedTable};
 use meaning::{MOST_ENTRIES, MOST_STEPS, Step};
 
 // A pattern: the first `count` of its steps, in preorder.
-#[derive(Drop)]
+#[derive(Clone, Copy)]
 pub struct Pattern {
     pub count: usize,
     pub steps: [Step; MOST_STEPS],
 }
 
 // An entry: bit i of the members is subscription i.
-#[derive(Drop)]
+#[derive(Clone, Copy)]
 pub struct Entry {
     pub members: u64,
     pub pattern: Pattern,
 }
 
 // A table: the first `count` of its entries.
-#[derive(Drop)]
+#[derive(Clone, Copy)]
 pub struct Table {
     pub count: usize,
     pub entries: [Entry; MOST_ENTRIES],

@@ -1,4 +1,6 @@
 // A pattern's bytes, and a subscription, written as a line of the notation.
+#![tactic(auto)]
+
 mod line; // line.rt: a pattern by value as a line
 
 ghost use Rattle.std.specs.Prelude.{◌≡◌};

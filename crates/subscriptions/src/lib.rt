@@ -1,4 +1,6 @@
 // Patterns by value out of a sheet or a table, and where the subscriptions of a sheet stand.
+#![tactic(auto)]
+
 ghost use Rattle.std.specs.Prelude.{◌≡◌, ◌+◌, ◌*◌, ◌^◌, ◌≤◌, ◌<◌, length};
 ghost use Rattle.meaning.specs.Numbers.{most_patterns, most_steps};
 ghost use Rattle.meaning.specs.Calls.{subscription};
@@ -13,7 +15,7 @@ use places::{byte_at, within};
 use shapes::{Pattern, no_steps};
 
 // How many subscriptions a sheet has, and the place of each; behind those, the places go on in the same way.
-#[derive(Drop)]
+#[derive(Clone, Copy)]
 pub struct Subscriptions {
     pub count: usize,
     pub places: [usize; MOST_PATTERNS],

@@ -1,4 +1,6 @@
 // Reads two bytes of limit and then a sheet from standard input, and prints the table that is built, or the refusal.
+#![tactic(auto)]
+
 use libc::{STDIN_FILENO, STDOUT_FILENO};
 
 fn main() {

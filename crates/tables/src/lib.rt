@@ -1,5 +1,7 @@
 // Reading the bytes of a table beside a sheet: entries are judged by places in the lent bytes (specs/TableSection.antt), and
 // what that gives is what a table means. Entries by value from their places.
+#![tactic(auto)]
+
 ghost use Rattle.std.specs.Prelude.{◌≡◌, ◌+◌, ◌*◌, ◌-◌, ◌<◌, leb, length};
 ghost use Rattle.base.specs.Loops.{run};
 ghost use Rattle.places.specs.NumberRead.{number_in};
@@ -16,7 +18,7 @@ use shapes::Entry;
 use subscriptions::{after_pattern, pattern_at};
 
 // How many entries a table has, and the place of each; behind those, the places go on in the same way.
-#[derive(Drop)]
+#[derive(Clone, Copy)]
 pub struct Entries {
     pub count: usize,
     pub places: [usize; MOST_ENTRIES],

@@ -1,4 +1,6 @@
 // Bytes, numbers in decimal and other pieces of text, put into a lent output from a place on, while there is room.
+#![tactic(auto)]
+
 pub mod pattern; // pattern.rt: a pattern as text
 
 ghost use Rattle.std.specs.Prelude.{◌≡◌, ◌++◌};

@@ -10,7 +10,7 @@ use places::byte_at;
 
 // The place of the next byte, what has just been read, how many brackets are open, the step that a branch would hang on, how many steps were found (at
 // most 17 are counted), and whether every label so far is known.
-#[derive(Drop)]
+#[derive(Clone, Copy)]
 pub struct Course {
     pub at: usize,
     pub mode: Mode,

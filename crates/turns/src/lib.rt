@@ -1,4 +1,6 @@
 // What one byte of a line does, by what has just been read.
+#![tactic(auto)]
+
 pub mod names; // names.rt: a name, from its first byte to its end
 pub mod course; // course.rt: how far a line has been read
 
@@ -8,7 +10,7 @@ ghost use Rattle.turns.specs.Turns.{name_turn, slash_turn, branch_turn, second_t
 use labels::written::barred;
 
 // What has just been read: nothing; the dot of a line without steps; a slash; two slashes; [ and [. and [./; a name or a ].
-#[derive(Drop)]
+#[derive(Clone, Copy)]
 pub enum Mode {
     Start,
     Dot,
@@ -21,7 +23,7 @@ pub enum Mode {
 }
 
 // What the byte does: no line goes on so; it leads on; a bracket opens or closes; a name begins, with its axis.
-#[derive(Drop)]
+#[derive(Clone, Copy)]
 pub enum Turn {
     Stuck,
     Moves(Mode),

@@ -7,7 +7,7 @@ use labels::number_of;
 use labels::written::barred;
 
 // Where a name ends; its number, 0 for any and for a label that is unknown; whether it is known.
-#[derive(Drop)]
+#[derive(Clone, Copy)]
 pub struct Name {
     pub end: usize,
     pub label: u8,

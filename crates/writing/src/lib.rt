@@ -1,4 +1,6 @@
 // Writing a pattern and a table into a lent output.
+#![tactic(auto)]
+
 ghost use Rattle.std.specs.Prelude.{◌+◌, ◌≤◌, ◌≡◌, leb, length};
 ghost use Rattle.std.proofs.lemmas.List.Edits.{sets};
 ghost use Rattle.meaning.specs.Written.{step_bytes, pattern_bytes, table_bytes};

@@ -1,0 +1,14 @@
+-- `documents::document_number` meets its contract.
+use Rattle.places.specs.Bytes.{number_at}
+use mathlib.Core.Path.{sym, ◌∙◌, ap}
+use borrow.Author.Rules.{rules}
+use Rattle.documents.specs.DocumentJudged.{document_number_lem}
+use Rattle.documents.proofs.document_number.Goals as goal
+
+pub returns-in-At : goal.returns-in-At
+unfolding number_at
+returns-in-At c = ap number_at (sym c.in-At.is ∙ c.sheet_and_document.ensures) ∙ document_number_lem _ _
+
+pub returns-in-No : goal.returns-in-No
+unfolding number_at
+returns-in-No c = ap number_at (sym c.in-No.is ∙ c.sheet_and_document.ensures) ∙ document_number_lem _ _

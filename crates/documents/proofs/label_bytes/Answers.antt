@@ -1,0 +1,34 @@
+-- `documents::label_bytes` meets its contract.
+use native.Mathlib.Omega.{arith}
+use mathlib.Core.Path.{sym, ◌∙◌}
+use borrow.Author.Rules.{rules}
+use Rattle.documents.specs.LabelNumbers.{part_refused, part_zero, part_of_sheet, part_of_document, part_over}
+use Rattle.documents.proofs.label_bytes.Goals as goal
+
+pub returns-then-n-lt1 : goal.returns-then-n-lt1
+returns-then-n-lt1 c =
+    let read = c in
+    part_zero _ _ _ _ (sym read.sheet_and_document.ensures ∙ read.in-At.is) (omega arith)
+
+pub returns-then-i-k : goal.returns-then-i-k
+returns-then-i-k c =
+    let read = c in
+    rw (c.text_at.ensures, c.after_labels.ensures.0)
+    (part_of_sheet _ _ _ _ (sym read.sheet_and_document.ensures ∙ read.in-At.is) (omega arith) (omega arith))
+
+pub returns-then-i-k-2 : goal.returns-then-i-k-2
+returns-then-i-k-2 c =
+    let counted = c in
+    let read = counted in
+    rw (c.text_at-then-i-k-2.ensures, c.after_labels-then-i-k-2.ensures.0, counted.byte_at-k.ensures.0)
+    (part_of_document _ _ _ _ (sym read.sheet_and_document.ensures ∙ read.in-At.is) (omega arith) (omega arith))
+
+pub returns-in-At : goal.returns-in-At
+returns-in-At c =
+    let read = c in
+    part_over _ _ _ _ (sym read.sheet_and_document.ensures ∙ read.in-At.is) (omega arith) (omega arith)
+
+pub returns-in-No : goal.returns-in-No
+returns-in-No c =
+    let refused = c in
+    part_refused _ _ _ _ (sym refused.sheet_and_document.ensures ∙ refused.in-No.is)

@@ -1,0 +1,14 @@
+-- `documents::nodes_from` meets its contract.
+-- The invariant: i nodes are read, and the next one stands at x; the measure: what is left.
+use Prim.Native.Nat.{◌-◌}
+use Rattle.places.specs.ReadingLoop.{ReadSoFar, reading_starts, reads_on, reads-fault, all_read}
+use Rattle.documents.specs.DocumentSection.{node_place}
+use borrow.Author.Rules.{rules}
+use native.Mathlib.Omega.{arith}
+use Rattle.documents.proofs.nodes_from.Given as goal
+
+abbrev pub invariant-loop-i : goal.invariant-loop-i
+invariant-loop-i l = ReadSoFar (node_place l.d l.known) l.n l.p l.i l.x
+
+abbrev pub decreases-loop-i : goal.decreases-loop-i
+decreases-loop-i l = l.n - l.i

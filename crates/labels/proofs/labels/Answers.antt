@@ -1,0 +1,23 @@
+-- `labels::labels` meets its contract.
+-- The invariant: i labels are read, and the next one stands at x; the measure: what is left.
+use Prim.Native.Nat.{◌-◌}
+use Rattle.places.specs.ReadingLoop.{ReadSoFar, reading_starts, reads_on, reads-fault, all_read}
+use Rattle.labels.specs.LabelSection.{label_place, labels_section}
+use borrow.Author.Rules.{rules}
+use native.Mathlib.Omega.{arith}
+use Rattle.labels.proofs.labels.Goals as goal
+
+pub returns-in-No : goal.returns-in-No
+unfolding labels_section
+returns-in-No c =
+    let read = c in
+    reads-fault read.loop-i.invariant (omega arith) read.label.ensures c.in-No.is
+
+pub loop-i-preserved : goal.loop-i-preserved
+loop-i-preserved c =
+    let read = c in
+    reads_on read.loop-i.invariant (omega arith) read.label.ensures c.in-At.is
+
+pub returns : goal.returns
+unfolding labels_section
+returns c = all_read c.loop-i.invariant (omega arith)

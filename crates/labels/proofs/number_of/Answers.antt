@@ -1,0 +1,35 @@
+-- `labels::number_of` meets its contract.
+-- The invariant: what is left from here gives what all gives from the start; the measure: what is left.
+use mathlib.Core.Path.{◌≡◌}
+use Prim.Native.Nat.{◌+◌, ◌-◌}
+use Rattle.base.specs.Standing.{standing}
+use Rattle.meaning.specs.LineCalls.{number_from}
+use Rattle.labels.specs.LabelPlaces.{text_at, after_label, texts_at, labels_in}
+use Rattle.labels.specs.LabelNumbered.{number-hits, number-goes_on, number-ends}
+use borrow.Author.Rules.{rules}
+use native.Mathlib.Nat.{sub-zero}
+use native.Mathlib.Omega.{arith}
+use Rattle.labels.proofs.number_of.Goals as goal
+
+pub loop-i-init : goal.loop-i-init
+unfolding labels_in texts_at
+loop-i-init c = rw (sub-zero, c.byte_at-n.ensures.0)
+
+pub returns-then-same_label : goal.returns-then-same_label
+returns-then-same_label c =
+    let asked = c in
+    let l = asked.loop-i in
+    let same = rw asked.text_at.ensures at asked.same_label.ensures in
+    number-hits _ _ _ _ l.i l.x _ _ (omega arith) c.if-same_label.true same l.invariant
+
+pub loop-i-preserved : goal.loop-i-preserved
+loop-i-preserved c =
+    let asked = c in
+    let l = asked.loop-i in
+    let same = rw asked.text_at.ensures at asked.same_label.ensures in
+    number-goes_on _ _ _ _ l.i l.x _ _ _ (omega arith) c.if-same_label.false same c.after_label-x.ensures.0 l.invariant
+
+pub returns : goal.returns
+returns c =
+    let l = c.loop-i in
+    number-ends _ _ _ _ l.i l.x _ (omega arith) l.invariant

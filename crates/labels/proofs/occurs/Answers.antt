@@ -1,0 +1,36 @@
+-- `labels::occurs` meets its contract.
+-- The invariant: what is left from here gives what all gives from the start; the measure: what is left.
+use mathlib.Core.Path.{◌≡◌}
+use Prim.Native.Nat.{◌-◌}
+use Rattle.base.specs.Standing.{standing, some-hits, some-goes_on, some-ends}
+use Rattle.meaning.specs.Sections.{same_label}
+use Rattle.base.specs.Lists.{some}
+use Rattle.labels.specs.LabelPlaces.{text_at, after_label, texts_at}
+use borrow.Author.Rules.{rules}
+use native.Mathlib.Nat.{sub-zero}
+use native.Mathlib.Omega.{arith}
+use Rattle.labels.proofs.occurs.Goals as goal
+
+pub loop-i-init : goal.loop-i-init
+loop-i-init c = rw sub-zero
+
+pub returns-then-same_label : goal.returns-then-same_label
+unfolding texts_at
+returns-then-same_label c =
+    let asked = c in
+    let l = asked.loop-i in
+    let same = rw asked.text_at.ensures at asked.same_label.ensures in
+    some-hits _ _ _ _ l.i l.x _ _ (omega arith) c.if-same_label.true same l.invariant
+
+pub loop-i-preserved : goal.loop-i-preserved
+loop-i-preserved c =
+    let asked = c in
+    let l = asked.loop-i in
+    let same = rw asked.text_at.ensures at asked.same_label.ensures in
+    some-goes_on _ _ _ _ l.i l.x _ _ _ (omega arith) c.if-same_label.false same c.after_label-x.ensures.0 l.invariant
+
+pub returns : goal.returns
+unfolding texts_at
+returns c =
+    let l = c.loop-i in
+    some-ends _ _ _ _ l.i l.x _ (omega arith) l.invariant

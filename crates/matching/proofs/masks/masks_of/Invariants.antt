@@ -1,0 +1,18 @@
+-- `matching::masks::masks_of` meets its contract: in turn k the masks are those of the first k steps.
+use Prim.Native.Nat.{◌*◌, ◌-◌, ◌%◌, ◌^◌, ◌≤◌, ◌<◌}
+use mathlib.Core.Path.{◌≡◌, sym, ◌∙◌}
+use native.Mathlib.Omega.{arith}
+use borrow.Author.Rules.{rules}
+use lib.ListN.{length}
+use lib.Pow.{shl_exact}
+use Rattle.meaning.specs.Numbers.{most_steps}
+use Rattle.shapes.specs.Shapes.{steps_in}
+use Rattle.shapes.specs.Steps.{step_in, length-steps, step_at_lem, parent-low}
+use Rattle.matching.specs.Masks.{MasksSoFar, with_far, masks_start, masks_go_on}
+use Rattle.matching.proofs.masks.masks_of.Given as goal
+
+abbrev pub invariant-loop-k : goal.invariant-loop-k
+invariant-loop-k l = (l.k ≤ l.p.count) × MasksSoFar (steps_in l.p) l.k (with_far l.m l.far)
+
+abbrev pub decreases-loop-k : goal.decreases-loop-k
+decreases-loop-k l = l.p.count - l.k

@@ -1,0 +1,27 @@
+-- `matching::turn::given` meets its contract: what is left from place k on gives what all sixteen give.
+use Prim.Native.Nat.{◌-◌}
+use mathlib.Core.Path.{◌≡◌, refl}
+use native.Mathlib.Omega.{arith}
+use borrow.Author.Rules.{rules}
+use Rattle.base.specs.Loops.{fold_n}
+use Rattle.base.specs.Along.{fold_n-goes_on, fold_n-ends}
+use Rattle.meaning.specs.Numbers.{most_steps}
+use Rattle.matching.specs.NodeTurns.{masks_lent, one_given, with_given, given}
+use Rattle.matching.proofs.turn.given.Goals as goal
+
+pub loop-k-init : goal.loop-k-init
+unfolding given
+loop-k-init c = refl
+
+pub loop-k-preserved : goal.loop-k-preserved
+unfolding one_given with_given
+loop-k-preserved c =
+    let l = c in
+    let a = l.args in
+    let m = masks_lent a.children.now a.labels.now a.cares.now a.own.now a.far in
+    let one : c.bit_where-bits.result ≡ one_given m a.word a.label l.loop-k.k =
+    rw c.has_all.ensures at c.bit_where-bits.ensures in
+    rw one (fold_n-goes_on _ most_steps l.loop-k.k l.loop-k.bits _ (omega arith) l.loop-k.invariant)
+
+pub returns : goal.returns
+returns c = fold_n-ends _ most_steps c.loop-k.k _ _ (omega arith) c.loop-k.invariant

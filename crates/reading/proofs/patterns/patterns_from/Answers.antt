@@ -1,0 +1,22 @@
+-- `reading::patterns::patterns_from` meets its contract.
+-- The invariant: i patterns are read, and the next one stands at x; the measure: what is left.
+use Prim.Native.Nat.{◌-◌}
+use Rattle.places.specs.ReadingLoop.{ReadSoFar, reading_starts, reads_on, reads-fault, all_read}
+use Rattle.places.specs.InTurn.{each_place}
+use Rattle.reading.specs.SheetSection.{pattern_section}
+use borrow.Author.Rules.{rules}
+use native.Mathlib.Omega.{arith}
+use Rattle.reading.proofs.patterns.patterns_from.Goals as goal
+
+pub returns-in-No : goal.returns-in-No
+returns-in-No c =
+    let read = c in
+    reads-fault read.loop-i.invariant (omega arith) read.pattern.ensures c.in-No.is
+
+pub loop-i-preserved : goal.loop-i-preserved
+loop-i-preserved c =
+    let read = c in
+    reads_on read.loop-i.invariant (omega arith) read.pattern.ensures c.in-At.is
+
+pub returns : goal.returns
+returns c = all_read c.loop-i.invariant (omega arith)

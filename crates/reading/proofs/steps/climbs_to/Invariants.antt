@@ -1,0 +1,13 @@
+-- `reading::steps::climbs_to` meets its contract.
+-- The invariant: where the climb stands; the measure: the turns that are left.
+use Prim.Native.Nat.{◌-◌}
+use Rattle.reading.specs.ClimbingLoop.{Climbing, climb_starts, climb_meets, climb_tops, climb_goes_on, climb_ends}
+use borrow.Author.Rules.{rules}
+use native.Mathlib.Omega.{arith}
+use Rattle.reading.proofs.steps.climbs_to.Given as goal
+
+abbrev pub invariant-loop-i : goal.invariant-loop-i
+invariant-loop-i l = Climbing l.s l.p l.q l.n l.c l.i l.at
+
+abbrev pub decreases-loop-i : goal.decreases-loop-i
+decreases-loop-i l = l.n - l.i

@@ -1,0 +1,17 @@
+-- `reading::steps::near_at_root` meets its contract.
+-- The invariant: what is left from here gives what all gives from the start; the measure: what is left.
+use mathlib.Core.Path.{◌≡◌, refl}
+use Prim.Native.Nat.{◌+◌, ◌*◌, ◌-◌, ◌≤◌}
+use Rattle.base.specs.Standing.{standing, some-hits, some-goes_on, some-ends}
+use Rattle.meaning.specs.Sections.{is_near_root}
+use Rattle.base.specs.Lists.{some}
+use native.Mathlib.Nat.{sub-zero}
+use native.Mathlib.Omega.{arith}
+use Rattle.reading.specs.SheetPlaces.{step_at_place, after_step, steps_at}
+use Rattle.reading.proofs.steps.near_at_root.Given as goal
+
+abbrev pub invariant-loop-i : goal.invariant-loop-i
+invariant-loop-i l = (l.x ≤ l.p + 3 * l.i) × (some is_near_root (standing (step_at_place l.s) after_step l.x (l.k - l.i)) ≡ some is_near_root (standing (step_at_place l.s) after_step l.p l.k))
+
+abbrev pub decreases-loop-i : goal.decreases-loop-i
+decreases-loop-i l = l.k - l.i

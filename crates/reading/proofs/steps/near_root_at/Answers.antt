@@ -1,0 +1,14 @@
+-- `reading::steps::near_root_at` meets its contract.
+use borrow.Author.Tests.{eq-eqb, ne_eqb}
+use Rattle.meaning.specs.Sections.{is_near_root, near_root}
+use borrow.Author.Rules.{rules}
+use Rattle.reading.specs.SheetPlaces.{step_at_place}
+use Rattle.reading.proofs.steps.near_root_at.Goals as goal
+
+pub returns-then-byte_at-ne0 : goal.returns-then-byte_at-ne0
+unfolding is_near_root near_root step_at_place
+returns-then-byte_at-ne0 c = rw (← c.byte_at.ensures.0, ne_eqb _ _ c.if-byte_at-ne0.true)
+
+pub returns : goal.returns
+unfolding is_near_root near_root step_at_place
+returns c = rw (← c.byte_at.ensures.0, ← c.byte_at-2.ensures.0, eq-eqb _ _ c.if-byte_at-ne0.false)

@@ -1,0 +1,21 @@
+-- `reading::steps::steps` meets its contract.
+-- The invariant: k steps are read, and the next one stands at x; the measure: what is left.
+use Prim.Native.Nat.{◌-◌}
+use Rattle.places.specs.ReadingLoop.{ReadSoFar, reading_starts, reads_on, reads-fault, all_read}
+use Rattle.reading.specs.StepSection.{step_place}
+use borrow.Author.Rules.{rules}
+use native.Mathlib.Omega.{arith}
+use Rattle.reading.proofs.steps.steps.Goals as goal
+
+pub returns-in-No : goal.returns-in-No
+returns-in-No c =
+    let read = c in
+    reads-fault read.loop-k.invariant (omega arith) read.step.ensures c.in-No.is
+
+pub loop-k-preserved : goal.loop-k-preserved
+loop-k-preserved c =
+    let read = c in
+    reads_on read.loop-k.invariant (omega arith) read.step.ensures c.in-At.is
+
+pub returns : goal.returns
+returns c = all_read c.loop-k.invariant (omega arith)

@@ -1,0 +1,27 @@
+-- `shapes::steps_together` meets its contract: the steps of the entries passed are added up.
+use Prim.Native.Nat.{◌-◌}
+use native.Mathlib.Omega.{arith}
+use Rattle.shapes.specs.TableValues.{no_entry_value, entry-sound}
+use Rattle.shapes.specs.Summing.{Summed, sum_starts, sum-goes_on, sum-ends}
+use Rattle.shapes.proofs.steps_together.Goals as goal
+
+pub loop-i-init : goal.loop-i-init
+loop-i-init c = sum_starts c.args.t
+
+pub overflow_add-n : goal.overflow_add-n
+overflow_add-n c =
+    let l = c.loop-i in
+    let a = c in
+    omega (arith, (entry-sound a.args.t a.requires l.i no_entry_value (omega arith)).few)
+
+pub loop-i-preserved : goal.loop-i-preserved
+loop-i-preserved c =
+    let l = c.loop-i in
+    let a = c in
+    sum-goes_on a.args.t l.i l.n a.requires (omega arith) l.invariant
+
+pub returns : goal.returns
+returns c =
+    let l = c.loop-i in
+    let a = c in
+    (sum-ends a.args.t l.i l.n a.requires (omega arith) l.invariant, omega arith)

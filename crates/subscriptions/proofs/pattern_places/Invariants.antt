@@ -1,0 +1,17 @@
+-- `subscriptions::pattern_places` meets its contract.
+-- The invariant: what is filled is what stands there, and x is where the next one stands; the measure: what is left.
+use Rattle.subscriptions.specs.Taken.{itself, pattern_places}
+use Rattle.reading.specs.SheetPlaces.{after_pattern}
+use native.Mathlib.Omega.{arith}
+use lib.ListN.{length, length-set}
+use mathlib.Core.Path.{◌≡◌, refl, ◌∙◌}
+use Prim.Native.Nat.{◌+◌, ◌*◌, ◌-◌, ◌≤◌}
+use Rattle.base.specs.Standing.{FilledUpTo, fill_starts, fill-goes_on, fill-ends}
+use Rattle.meaning.specs.Numbers.{most_patterns}
+use Rattle.subscriptions.proofs.pattern_places.Given as goal
+
+abbrev pub invariant-loop-i : goal.invariant-loop-i
+invariant-loop-i l = (length l.places ≡ most_patterns) × (l.i ≤ most_patterns) × (l.x ≤ l.p + 766 * l.i) × FilledUpTo itself (after_pattern l.s) l.p l.places l.i l.x
+
+abbrev pub decreases-loop-i : goal.decreases-loop-i
+decreases-loop-i l = most_patterns - l.i

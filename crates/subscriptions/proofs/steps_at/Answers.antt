@@ -1,0 +1,34 @@
+-- `subscriptions::steps_at` meets its contract.
+-- The invariant: what is filled is what stands there, x is where the next one stands, and behind it all is empty; the measure: what is left.
+use Rattle.reading.specs.SheetPlaces.{step_at_place, after_step, steps_at}
+use Rattle.shapes.specs.Shapes.{no_steps}
+use Rattle.subscriptions.specs.Taken.{steps_filled}
+use native.Mathlib.Omega.{arith}
+use lib.ListN.{length, drop, length-set, take-append-drop}
+use lib.Seq.{drop-drop, drop-set-lt}
+use mathlib.Core.Path.{◌≡◌, refl, sym, ap, ◌∙◌}
+use Prim.Native.Nat.{◌+◌, ◌*◌, ◌-◌, ◌≤◌}
+use Rattle.base.specs.Standing.{FilledUpTo, fill_starts, fill-goes_on}
+use Rattle.meaning.specs.Numbers.{most_steps}
+use Rattle.subscriptions.proofs.steps_at.Goals as goal
+
+pub loop-i-init : goal.loop-i-init
+unfolding no_steps
+loop-i-init c = (refl, omega arith, omega arith, fill_starts _ _ _ _, refl)
+
+pub loop-i-preserved : goal.loop-i-preserved
+unfolding after_step
+loop-i-preserved c =
+    let l = c.loop-i in
+    let v = c.step_at.result in
+    let filled = fill-goes_on _ _ _ l.steps l.i l.x (l.x + 3) _ (omega arith) c.step_at.ensures refl l.invariant.3 in
+    let kept = drop-set-lt (l.i + 1) l.steps l.i v (omega arith) in
+    let behind = kept ∙ sym (drop-drop 1 l.i l.steps) ∙ ap (drop 1) l.invariant.4 ∙ drop-drop 1 l.i no_steps.steps in
+    (length-set l.steps l.i v ∙ l.invariant.0, omega arith, omega arith, filled, behind)
+
+pub returns : goal.returns
+unfolding steps_filled steps_at
+returns c =
+    let l = c.loop-i in
+    let done : l.i ≡ c.args.n = omega arith in
+    sym (take-append-drop l.i l.steps) ∙ rw (l.invariant.3.so_far, l.invariant.4, done)

@@ -1,0 +1,19 @@
+-- `subscriptions::steps_at` meets its contract.
+-- The invariant: what is filled is what stands there, x is where the next one stands, and behind it all is empty; the measure: what is left.
+use Rattle.reading.specs.SheetPlaces.{step_at_place, after_step, steps_at}
+use Rattle.shapes.specs.Shapes.{no_steps}
+use Rattle.subscriptions.specs.Taken.{steps_filled}
+use native.Mathlib.Omega.{arith}
+use lib.ListN.{length, drop, length-set, take-append-drop}
+use lib.Seq.{drop-drop, drop-set-lt}
+use mathlib.Core.Path.{◌≡◌, refl, sym, ap, ◌∙◌}
+use Prim.Native.Nat.{◌+◌, ◌*◌, ◌-◌, ◌≤◌}
+use Rattle.base.specs.Standing.{FilledUpTo, fill_starts, fill-goes_on}
+use Rattle.meaning.specs.Numbers.{most_steps}
+use Rattle.subscriptions.proofs.steps_at.Given as goal
+
+abbrev pub invariant-loop-i : goal.invariant-loop-i
+invariant-loop-i l = (length l.steps ≡ most_steps) × (l.i ≤ l.n) × (l.x ≤ l.p + 3 * l.i) × FilledUpTo (step_at_place l.s) after_step l.p l.steps l.i l.x × (drop l.i l.steps ≡ drop l.i no_steps.steps)
+
+abbrev pub decreases-loop-i : goal.decreases-loop-i
+decreases-loop-i l = l.n - l.i

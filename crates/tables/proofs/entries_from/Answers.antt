@@ -1,0 +1,22 @@
+-- `tables::entries_from` meets its contract.
+-- The invariant: i entries are read, and the next one stands at x; the measure: what is left.
+use Prim.Native.Nat.{◌-◌}
+use Rattle.places.specs.ReadingLoop.{ReadSoFar, reading_starts, reads_on, reads-fault, all_read}
+use Rattle.places.specs.InTurn.{each_place}
+use Rattle.tables.specs.TableSection.{entry_section}
+use borrow.Author.Rules.{rules}
+use native.Mathlib.Omega.{arith}
+use Rattle.tables.proofs.entries_from.Goals as goal
+
+pub returns-in-No : goal.returns-in-No
+returns-in-No c =
+    let read = c in
+    reads-fault read.loop-i.invariant (omega arith) read.entry.ensures c.in-No.is
+
+pub loop-i-preserved : goal.loop-i-preserved
+loop-i-preserved c =
+    let read = c in
+    reads_on read.loop-i.invariant (omega arith) read.entry.ensures c.in-At.is
+
+pub returns : goal.returns
+returns c = all_read c.loop-i.invariant (omega arith)
