@@ -4,8 +4,7 @@ use Rattle.covering.proofs.covers.Goals as goal
 
 pub covers_noting-requires : goal.covers_noting-requires
 covers_noting-requires c =
-    let s = c in
-    nothing-noted s.args.a s.args.b s.requires.0 s.requires.1
+    nothing-noted c.args.a c.args.b c.requires.0 c.requires.1
 
 pub returns : goal.returns
 returns c = c.covers_noting.ensures.0

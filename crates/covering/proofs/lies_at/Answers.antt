@@ -9,32 +9,21 @@ use Rattle.covering.proofs.lies_at.Goals as goal
 pub returns-then-known-eq1 : goal.returns-then-known-eq1
 unfolding step_in
 returns-then-known-eq1 c =
-    let known = c in
-    let asked = known in
-    let s = asked in
-    let h = s.requires.0 in
-    let lies = known-lies h s.args.v s.args.w (omega arith) _ known.known_at-known.ensures c.if-known-eq1.true in
-    (label_and_children h.first h.second _ _ s.requires.1 s.requires.2 s.requires.3 s.requires.4 asked.any_or_same.ensures lies, h)
+    let h = c.requires.0 in
+    let lies = known-lies h c.args.v c.args.w (omega arith) _ c.known_at-known.ensures c.if-known-eq1.true in
+    (label_and_children h.first h.second _ _ c.requires.1 c.requires.2 c.requires.3 c.requires.4 c.any_or_same.ensures lies, h)
 
 pub returns-then-known-eq2 : goal.returns-then-known-eq2
 unfolding step_in
 returns-then-known-eq2 c =
-    let known = c in
-    let asked = known in
-    let s = asked in
-    let h = s.requires.0 in
-    let doesn't = known_doesn't h s.args.v s.args.w (omega arith) _ known.known_at-known.ensures c.if-known-eq2.true in
-    (label_and_children h.first h.second _ _ s.requires.1 s.requires.2 s.requires.3 s.requires.4 asked.any_or_same.ensures doesn't, h)
+    let h = c.requires.0 in
+    let doesn't = known_doesn't h c.args.v c.args.w (omega arith) _ c.known_at-known.ensures c.if-known-eq2.true in
+    (label_and_children h.first h.second _ _ c.requires.1 c.requires.2 c.requires.3 c.requires.4 c.any_or_same.ensures doesn't, h)
 
 pub returns : goal.returns
 unfolding step_in
 returns c =
-    let lie = c in
-    let unknown = lie in
-    let known = unknown in
-    let asked = known in
-    let s = asked in
-    let h = s.requires.0 in
-    let r = children_decide lie.all_lie.ensures.1 s.args.v s.args.w (omega arith) _ _ known.known_at-known.ensures unknown.if-known-eq2.false
-    lie.all_lie.ensures.0 c.note.ensures in
-    (label_and_children h.first h.second _ _ s.requires.1 s.requires.2 s.requires.3 s.requires.4 asked.any_or_same.ensures r.0, r.1)
+    let h = c.requires.0 in
+    let r = children_decide c.all_lie.ensures.1 c.args.v c.args.w (omega arith) _ _ c.known_at-known.ensures c.if-known-eq2.false
+    c.all_lie.ensures.0 c.note.ensures in
+    (label_and_children h.first h.second _ _ c.requires.1 c.requires.2 c.requires.3 c.requires.4 c.any_or_same.ensures r.0, r.1)

@@ -7,28 +7,22 @@ use Rattle.documents.proofs.label_bytes.Goals as goal
 
 pub returns-then-n-lt1 : goal.returns-then-n-lt1
 returns-then-n-lt1 c =
-    let read = c in
-    part_zero _ _ _ _ (sym read.sheet_and_document.ensures ∙ read.in-At.is) (omega arith)
+    part_zero _ _ _ _ (sym c.sheet_and_document.ensures ∙ c.in-At.is) (omega arith)
 
 pub returns-then-i-k : goal.returns-then-i-k
 returns-then-i-k c =
-    let read = c in
     rw (c.text_at.ensures, c.after_labels.ensures.0)
-    (part_of_sheet _ _ _ _ (sym read.sheet_and_document.ensures ∙ read.in-At.is) (omega arith) (omega arith))
+    (part_of_sheet _ _ _ _ (sym c.sheet_and_document.ensures ∙ c.in-At.is) (omega arith) (omega arith))
 
 pub returns-then-i-k-2 : goal.returns-then-i-k-2
 returns-then-i-k-2 c =
-    let counted = c in
-    let read = counted in
-    rw (c.text_at-then-i-k-2.ensures, c.after_labels-then-i-k-2.ensures.0, counted.byte_at-k.ensures.0)
-    (part_of_document _ _ _ _ (sym read.sheet_and_document.ensures ∙ read.in-At.is) (omega arith) (omega arith))
+    rw (c.text_at-then-i-k-2.ensures, c.after_labels-then-i-k-2.ensures.0, c.byte_at-k.ensures.0)
+    (part_of_document _ _ _ _ (sym c.sheet_and_document.ensures ∙ c.in-At.is) (omega arith) (omega arith))
 
 pub returns-in-At : goal.returns-in-At
 returns-in-At c =
-    let read = c in
-    part_over _ _ _ _ (sym read.sheet_and_document.ensures ∙ read.in-At.is) (omega arith) (omega arith)
+    part_over _ _ _ _ (sym c.sheet_and_document.ensures ∙ c.in-At.is) (omega arith) (omega arith)
 
 pub returns-in-No : goal.returns-in-No
 returns-in-No c =
-    let refused = c in
-    part_refused _ _ _ _ (sym refused.sheet_and_document.ensures ∙ refused.in-No.is)
+    part_refused _ _ _ _ (sym c.sheet_and_document.ensures ∙ c.in-No.is)

@@ -7,18 +7,15 @@ use Rattle.documents.proofs.label_number.Goals as goal
 
 pub returns-then-n-lt1 : goal.returns-then-n-lt1
 returns-then-n-lt1 c =
-    let read = c in
-    number_zero _ _ _ _ (sym read.sheet_and_document.ensures ∙ read.in-At.is) (omega arith)
+    number_zero _ _ _ _ (sym c.sheet_and_document.ensures ∙ c.in-At.is) (omega arith)
 
 pub returns-then-all-n : goal.returns-then-all-n
 returns-then-all-n c =
-    let read = c in
-    number_over _ _ _ _ (sym read.sheet_and_document.ensures ∙ read.in-At.is) (omega arith) (omega arith)
+    number_over _ _ _ _ (sym c.sheet_and_document.ensures ∙ c.in-At.is) (omega arith) (omega arith)
 
 pub returns-else-all-n : goal.returns-else-all-n
 returns-else-all-n c =
-    let read = c in
-    number_there _ _ _ _ (sym read.sheet_and_document.ensures ∙ read.in-At.is) (omega arith) (omega arith)
+    number_there _ _ _ _ (sym c.sheet_and_document.ensures ∙ c.in-At.is) (omega arith) (omega arith)
 
 pub returns-in-No : goal.returns-in-No
 returns-in-No c = number-refused _ _ _ _ (sym c.sheet_and_document.ensures ∙ c.in-No.is)

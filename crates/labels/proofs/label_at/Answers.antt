@@ -14,8 +14,6 @@ returns-then-byte_at-n c = label_over _ _ (omega (arith, c.byte_at.ensures.0))
 
 pub returns : goal.returns
 returns c =
-    let place = c in
-    let over = place in
     c.text_at.ensures
-    ∙ ap (text_at _) place.after_labels.ensures.0
-    ∙ label_there _ _ over.if-n-eq0.false (omega (arith, over.byte_at.ensures.0))
+    ∙ ap (text_at _) c.after_labels.ensures.0
+    ∙ label_there _ _ c.if-n-eq0.false (omega (arith, c.byte_at.ensures.0))

@@ -17,16 +17,14 @@ loop-i-init c = rw (sub-zero, c.byte_at-n.ensures.0)
 
 pub returns-then-same_label : goal.returns-then-same_label
 returns-then-same_label c =
-    let asked = c in
-    let l = asked.loop-i in
-    let same = rw asked.text_at.ensures at asked.same_label.ensures in
+    let l = c.loop-i in
+    let same = rw c.text_at.ensures at c.same_label.ensures in
     number-hits _ _ _ _ l.i l.x _ _ (omega arith) c.if-same_label.true same l.invariant
 
 pub loop-i-preserved : goal.loop-i-preserved
 loop-i-preserved c =
-    let asked = c in
-    let l = asked.loop-i in
-    let same = rw asked.text_at.ensures at asked.same_label.ensures in
+    let l = c.loop-i in
+    let same = rw c.text_at.ensures at c.same_label.ensures in
     number-goes_on _ _ _ _ l.i l.x _ _ _ (omega arith) c.if-same_label.false same c.after_label-x.ensures.0 l.invariant
 
 pub returns : goal.returns

@@ -17,16 +17,14 @@ loop-i-init c = rw sub-zero
 pub returns-then-same_label : goal.returns-then-same_label
 unfolding texts_at
 returns-then-same_label c =
-    let asked = c in
-    let l = asked.loop-i in
-    let same = rw asked.text_at.ensures at asked.same_label.ensures in
+    let l = c.loop-i in
+    let same = rw c.text_at.ensures at c.same_label.ensures in
     some-hits _ _ _ _ l.i l.x _ _ (omega arith) c.if-same_label.true same l.invariant
 
 pub loop-i-preserved : goal.loop-i-preserved
 loop-i-preserved c =
-    let asked = c in
-    let l = asked.loop-i in
-    let same = rw asked.text_at.ensures at asked.same_label.ensures in
+    let l = c.loop-i in
+    let same = rw c.text_at.ensures at c.same_label.ensures in
     some-goes_on _ _ _ _ l.i l.x _ _ _ (omega arith) c.if-same_label.false same c.after_label-x.ensures.0 l.invariant
 
 pub returns : goal.returns

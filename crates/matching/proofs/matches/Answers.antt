@@ -8,8 +8,6 @@ use Rattle.matching.proofs.matches.Goals as goal
 
 pub returns : goal.returns
 returns c =
-    let made = c in
-    let start = made in
-    let pre = start.requires in
-    let bytes : Bytes start.args.d.now = λ k. omega (arith, start.shared_slice_known-1.given k) in
-    c.has_all.ensures ∙ top_word_tells _ _ _ _ pre.0 pre.3 bytes _ made.masks_of-m.ensures c.word_at_top-word.ensures
+    let pre = c.requires in
+    let bytes : Bytes c.args.d.now = λ k. omega (arith, c.shared_slice_known-1.given k) in
+    c.has_all.ensures ∙ top_word_tells _ _ _ _ pre.0 pre.3 bytes _ c.masks_of-m.ensures c.word_at_top-word.ensures

@@ -11,17 +11,14 @@ loop-i-init c = sum_starts c.args.t
 pub overflow_add-n : goal.overflow_add-n
 overflow_add-n c =
     let l = c.loop-i in
-    let a = c in
-    omega (arith, (entry-sound a.args.t a.requires l.i no_entry_value (omega arith)).few)
+    omega (arith, (entry-sound c.args.t c.requires l.i no_entry_value (omega arith)).few)
 
 pub loop-i-preserved : goal.loop-i-preserved
 loop-i-preserved c =
     let l = c.loop-i in
-    let a = c in
-    sum-goes_on a.args.t l.i l.n a.requires (omega arith) l.invariant
+    sum-goes_on c.args.t l.i l.n c.requires (omega arith) l.invariant
 
 pub returns : goal.returns
 returns c =
     let l = c.loop-i in
-    let a = c in
-    (sum-ends a.args.t l.i l.n a.requires (omega arith) l.invariant, omega arith)
+    (sum-ends c.args.t l.i l.n c.requires (omega arith) l.invariant, omega arith)

@@ -8,6 +8,5 @@ use Rattle.subscriptions.proofs.numbered.Goals as goal
 pub returns : goal.returns
 unfolding subscription
 returns c =
-    let start = c in
-    let t = start.requires.0.taken start.args.i start.requires.1 in
+    let t = c.requires.0.taken c.args.i c.requires.1 in
     (ap pattern_of c.pattern_at.ensures ∙ t.0, rw c.pattern_at.ensures t.1)

@@ -10,13 +10,11 @@ use Rattle.tables.proofs.entries_from.Goals as goal
 
 pub returns-in-No : goal.returns-in-No
 returns-in-No c =
-    let read = c in
-    reads-fault read.loop-i.invariant (omega arith) read.entry.ensures c.in-No.is
+    reads-fault c.loop-i.invariant (omega arith) c.entry.ensures c.in-No.is
 
 pub loop-i-preserved : goal.loop-i-preserved
 loop-i-preserved c =
-    let read = c in
-    reads_on read.loop-i.invariant (omega arith) read.entry.ensures c.in-At.is
+    reads_on c.loop-i.invariant (omega arith) c.entry.ensures c.in-At.is
 
 pub returns : goal.returns
 returns c = all_read c.loop-i.invariant (omega arith)

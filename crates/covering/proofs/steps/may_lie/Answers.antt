@@ -10,23 +10,20 @@ use Rattle.covering.proofs.steps.may_lie.Goals.{then-starred, else-starred}
 
 pub returns-then-t-ne0 : goal.returns-then-t-ne0
 returns-then-t-ne0 c =
-    let on-far = c in
-    let asked = on-far in
-    let s = asked.args.s in
-    let starred = asked.args.starred in
-    let t = asked.args.t in
+    let s = c.args.s in
+    let starred = c.args.starred in
+    let t = c.args.t in
     let both : c.if-starred.result ≡ (starred && any_or_same s.label t.label) =
     elim c.if-starred.branch [
       then-starred w ↦ rw w.if-starred.true (w.result-is ∙ c.any_or_same-fits.ensures)
       | else-starred w ↦ rw w.if-starred.false (w.result-is ∙ w.if-starred.false)
     ] in
-    both ∙ near_on_far s.axis s.label t.axis t.label starred on-far.if-s-eq0.true (rw (ne_eqb t.axis 0 c.if-t-ne0.true))
+    both ∙ near_on_far s.axis s.label t.axis t.label starred c.if-s-eq0.true (rw (ne_eqb t.axis 0 c.if-t-ne0.true))
 
 pub returns : goal.returns
 returns c =
-    let asked = c in
-    let s = asked.args.s in
-    let t = asked.args.t in
-    asked.any_or_same-fits.ensures
-    ∙ labels_decide s.axis s.label t.axis t.label asked.args.starred
+    let s = c.args.s in
+    let t = c.args.t in
+    c.any_or_same-fits.ensures
+    ∙ labels_decide s.axis s.label t.axis t.label c.args.starred
     (⊎_elim (λ h. inl (rw (eq-eqb t.axis 0 h.1))) inr c.else-s-eq0.either)

@@ -33,13 +33,12 @@ bounds-m-q-in-loop-k c = let l = c in omega (arith, parent-low _ l.requires l.lo
 pub loop-k-preserved : goal.loop-k-preserved
 unfolding step_in
 loop-k-preserved c =
-    let l = c in
-    let sound = l.requires in
-    let here = sym (step_at_lem _ sound l.loop-k.k (omega arith)) in
-    let low = parent-low _ sound l.loop-k.k (omega arith) in
-    let few : l.loop-k.k < most_steps = omega arith in
-    let bit : 1 * 2 ^ l.loop-k.k % 65536 ≡ 2 ^ l.loop-k.k = shl_exact 1 l.loop-k.k 16 (omega arith) (omega arith) ∙ omega arith in
-    (omega arith, masks_go_on _ _ _ few l.loop-k.invariant.1 here (omega arith) bit c.cares_for.ensures c.mark-far.ensures)
+    let sound = c.requires in
+    let here = sym (step_at_lem _ sound c.loop-k.k (omega arith)) in
+    let low = parent-low _ sound c.loop-k.k (omega arith) in
+    let few : c.loop-k.k < most_steps = omega arith in
+    let bit : 1 * 2 ^ c.loop-k.k % 65536 ≡ 2 ^ c.loop-k.k = shl_exact 1 c.loop-k.k 16 (omega arith) (omega arith) ∙ omega arith in
+    (omega arith, masks_go_on _ _ _ few c.loop-k.invariant.1 here (omega arith) bit c.cares_for.ensures c.mark-far.ensures)
 
 pub returns : goal.returns
 returns c =

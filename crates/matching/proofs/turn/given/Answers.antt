@@ -16,12 +16,11 @@ loop-k-init c = refl
 pub loop-k-preserved : goal.loop-k-preserved
 unfolding one_given with_given
 loop-k-preserved c =
-    let l = c in
-    let a = l.args in
+    let a = c.args in
     let m = masks_lent a.children.now a.labels.now a.cares.now a.own.now a.far in
-    let one : c.bit_where-bits.result ≡ one_given m a.word a.label l.loop-k.k =
+    let one : c.bit_where-bits.result ≡ one_given m a.word a.label c.loop-k.k =
     rw c.has_all.ensures at c.bit_where-bits.ensures in
-    rw one (fold_n-goes_on _ most_steps l.loop-k.k l.loop-k.bits _ (omega arith) l.loop-k.invariant)
+    rw one (fold_n-goes_on _ most_steps c.loop-k.k c.loop-k.bits _ (omega arith) c.loop-k.invariant)
 
 pub returns : goal.returns
 returns c = fold_n-ends _ most_steps c.loop-k.k _ _ (omega arith) c.loop-k.invariant

@@ -9,13 +9,11 @@ use Rattle.reading.proofs.steps.steps.Goals as goal
 
 pub returns-in-No : goal.returns-in-No
 returns-in-No c =
-    let read = c in
-    reads-fault read.loop-k.invariant (omega arith) read.step.ensures c.in-No.is
+    reads-fault c.loop-k.invariant (omega arith) c.step.ensures c.in-No.is
 
 pub loop-k-preserved : goal.loop-k-preserved
 loop-k-preserved c =
-    let read = c in
-    reads_on read.loop-k.invariant (omega arith) read.step.ensures c.in-At.is
+    reads_on c.loop-k.invariant (omega arith) c.step.ensures c.in-At.is
 
 pub returns : goal.returns
 returns c = all_read c.loop-k.invariant (omega arith)

@@ -1,0 +1,24 @@
+-- `fairness::all_fit` meets its contract: what is left from entry j on gives what all entries give.
+use Prim.Native.Nat.{◌-◌}
+use native.Mathlib.Omega.{arith}
+use borrow.Author.Rules.{rules}
+use borrow.Author.Tests.{not-true, not-false}
+use Rattle.tables.specs.TableSection.{entries_lent}
+use Rattle.fairness.specs.Each.{FittingEntries, fitting_starts, entry-fits, entry_doesn't_fit, fitting-ends}
+use Rattle.fairness.proofs.all_fit.Goals as goal
+
+pub loop-j-init : goal.loop-j-init
+loop-j-init c = fitting_starts c.requires.0
+
+pub returns-then-not-members_fit : goal.returns-then-not-members_fit
+returns-then-not-members_fit c =
+    entry_doesn't_fit c.loop-j.invariant (omega arith) c.members_at.ensures c.members_fit.ensures
+    (not-true _ c.if-not-members_fit.true)
+
+pub loop-j-preserved : goal.loop-j-preserved
+loop-j-preserved c =
+    entry-fits c.loop-j.invariant (omega arith) c.members_at.ensures c.members_fit.ensures
+    (not-false _ c.if-not-members_fit.false)
+
+pub returns : goal.returns
+returns c = fitting-ends c.loop-j.invariant (omega arith)

@@ -1,0 +1,14 @@
+-- `fairness::all_fit` meets its contract: what is left from entry j on gives what all entries give.
+use Prim.Native.Nat.{◌-◌}
+use native.Mathlib.Omega.{arith}
+use borrow.Author.Rules.{rules}
+use borrow.Author.Tests.{not-true, not-false}
+use Rattle.tables.specs.TableSection.{entries_lent}
+use Rattle.fairness.specs.Each.{FittingEntries, fitting_starts, entry-fits, entry_doesn't_fit, fitting-ends}
+use Rattle.fairness.proofs.all_fit.Given as goal
+
+abbrev pub invariant-loop-j : goal.invariant-loop-j
+invariant-loop-j l = FittingEntries l.n l.t (entries_lent l.count l.places) l.j
+
+abbrev pub decreases-loop-j : goal.decreases-loop-j
+decreases-loop-j l = l.count - l.j

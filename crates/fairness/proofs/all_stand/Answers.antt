@@ -1,0 +1,32 @@
+-- `fairness::all_stand` meets its contract: what is left from subscription i on gives what all give.
+use Prim.Native.Nat.{◌-◌}
+use native.Mathlib.Omega.{arith}
+use borrow.Author.Rules.{rules}
+use borrow.Author.Tests.{not-true, not-false}
+use Rattle.subscriptions.specs.Subscribed.{pattern-here}
+use Rattle.tables.specs.TableSection.{table_at}
+use Rattle.subscriptions.specs.Taken.{subscriptions_lent}
+use Rattle.fairness.specs.Each.{StandingFrom, standing_starts, subscription-stands, subscription_doesn't, standing-ends}
+use Rattle.fairness.proofs.all_stand.Goals as goal
+
+pub loop-i-init : goal.loop-i-init
+loop-i-init c = standing_starts c.requires.0
+
+pub stands-requires : goal.stands-requires
+stands-requires c =
+    let pre = c.requires in
+    let here = pattern-here _ _ pre.0 c.loop-i.i _ (omega arith) c.pattern_at-p.ensures in
+    (pre.1, pre.2, omega arith, here.1)
+
+pub returns-then-not-stands : goal.returns-then-not-stands
+returns-then-not-stands c =
+    subscription_doesn't c.loop-i.invariant (omega arith) c.pattern_at-p.ensures c.stands.ensures
+    (not-true _ c.if-not-stands.true)
+
+pub loop-i-preserved : goal.loop-i-preserved
+loop-i-preserved c =
+    subscription-stands c.loop-i.invariant (omega arith) c.pattern_at-p.ensures c.stands.ensures
+    (not-false _ c.if-not-stands.false)
+
+pub returns : goal.returns
+returns c = standing-ends c.loop-i.invariant (omega arith)

@@ -1,0 +1,22 @@
+-- `fairness::stands` meets its contract: what is left from entry j on gives what all entries give.
+use Prim.Native.Nat.{◌-◌}
+use native.Mathlib.Omega.{arith}
+use Rattle.shapes.specs.Shapes.{pattern_of}
+use Rattle.meaning.specs.Building.{no_entry}
+use Rattle.tables.specs.TableSection.{entries_lent}
+use Rattle.fairness.specs.Weighing.{WeighingEntries, weighing_starts, weighing_goes_on, weighing_ends}
+use Rattle.fairness.proofs.stands.Goals as goal
+
+pub loop-j-init : goal.loop-j-init
+loop-j-init c = weighing_starts c.requires.0
+
+pub weigh-found-requires : goal.weigh-found-requires
+weigh-found-requires c =
+    let pre = c.requires in
+    (pre.1.each c.loop-j.j (omega arith), (pre.0.taken c.loop-j.j no_entry (omega arith)).1, pre.2, pre.3)
+
+pub loop-j-preserved : goal.loop-j-preserved
+loop-j-preserved c = weighing_goes_on c.loop-j.invariant (omega arith) c.weigh-found.ensures
+
+pub returns : goal.returns
+returns c = weighing_ends c.loop-j.invariant (omega arith)

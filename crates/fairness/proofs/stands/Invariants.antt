@@ -1,0 +1,14 @@
+-- `fairness::stands` meets its contract: what is left from entry j on gives what all entries give.
+use Prim.Native.Nat.{◌-◌}
+use native.Mathlib.Omega.{arith}
+use Rattle.shapes.specs.Shapes.{pattern_of}
+use Rattle.meaning.specs.Building.{no_entry}
+use Rattle.tables.specs.TableSection.{entries_lent}
+use Rattle.fairness.specs.Weighing.{WeighingEntries, weighing_starts, weighing_goes_on, weighing_ends}
+use Rattle.fairness.proofs.stands.Given as goal
+
+abbrev pub invariant-loop-j : goal.invariant-loop-j
+invariant-loop-j l = WeighingEntries l.i (pattern_of l.p) l.t (entries_lent l.count l.places) l.j l.found
+
+abbrev pub decreases-loop-j : goal.decreases-loop-j
+decreases-loop-j l = l.count - l.j

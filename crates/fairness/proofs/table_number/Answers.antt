@@ -1,0 +1,14 @@
+-- `fairness::table_number` meets its contract: the number of the place that was reached.
+use mathlib.Core.Path.{sym, ap, ◌∙◌}
+use borrow.Author.Rules.{rules}
+use Rattle.places.specs.Bytes.{number_at}
+use Rattle.fairness.specs.FairJudged.{table_number_lem}
+use Rattle.fairness.proofs.table_number.Goals as goal
+
+pub returns-in-At : goal.returns-in-At
+unfolding number_at
+returns-in-At c = sym (ap number_at c.in-At.is) ∙ ap number_at c.fair_table.ensures ∙ table_number_lem _ _
+
+pub returns-in-No : goal.returns-in-No
+unfolding number_at
+returns-in-No c = sym (ap number_at c.in-No.is) ∙ ap number_at c.fair_table.ensures ∙ table_number_lem _ _

@@ -1,0 +1,20 @@
+-- `writing::put_table` meets its contract. In turn i the entries from i on are left to store.
+use Prim.Native.Nat.{◌-◌}
+use mathlib.Core.Path.{refl, ap, ◌∙◌}
+use native.Mathlib.Omega.{arith}
+use borrow.Author.Rules.{rules}
+use lib.ListN.{length, length-set}
+use lib.Seq.{sets, length-sets}
+use Rattle.base.specs.Storing.{parts_from, left-first, left-same, StoringTurn, turn-room, turn-goes_on, turns_end}
+use Rattle.meaning.specs.Written.{table_bytes}
+use Rattle.shapes.specs.Shapes.{table_of}
+use Rattle.shapes.specs.TableValues.{no_entry_value, entries_fit, entry-sound}
+use Rattle.writing.specs.BytesWritten.{bytes_of, table_bytes_lem}
+use Rattle.writing.proofs.put_table.Given as goal
+
+abbrev pub invariant-loop-i : goal.invariant-loop-i
+invariant-loop-i l = let whole = sets l.initial.out 1 (parts_from bytes_of l.t.count 0 l.t.entries) in
+    StoringTurn bytes_of l.t.count l.t.entries whole (length (table_bytes (table_of l.t))) l.out l.at l.i
+
+abbrev pub decreases-loop-i : goal.decreases-loop-i
+decreases-loop-i l = l.t.count - l.i
