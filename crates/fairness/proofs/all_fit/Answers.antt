@@ -13,12 +13,12 @@ loop-j-init c = fitting_starts c.requires.0
 pub returns-then-not-members_fit : goal.returns-then-not-members_fit
 returns-then-not-members_fit c =
     entry_doesn't_fit c.loop-j.invariant (omega arith) c.members_at.ensures c.members_fit.ensures
-    (not-true _ c.if-not-members_fit.true)
+    c.if-not-members_fit.true
 
 pub loop-j-preserved : goal.loop-j-preserved
 loop-j-preserved c =
     entry-fits c.loop-j.invariant (omega arith) c.members_at.ensures c.members_fit.ensures
-    (not-false _ c.if-not-members_fit.false)
+    c.if-not-members_fit.false
 
 pub returns : goal.returns
 returns c = fitting-ends c.loop-j.invariant (omega arith)

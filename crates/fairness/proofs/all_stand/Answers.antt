@@ -21,12 +21,12 @@ stands-requires c =
 pub returns-then-not-stands : goal.returns-then-not-stands
 returns-then-not-stands c =
     subscription_doesn't c.loop-i.invariant (omega arith) c.pattern_at-p.ensures c.stands.ensures
-    (not-true _ c.if-not-stands.true)
+    c.if-not-stands.true
 
 pub loop-i-preserved : goal.loop-i-preserved
 loop-i-preserved c =
     subscription-stands c.loop-i.invariant (omega arith) c.pattern_at-p.ensures c.stands.ensures
-    (not-false _ c.if-not-stands.false)
+    c.if-not-stands.false
 
 pub returns : goal.returns
 returns c = standing-ends c.loop-i.invariant (omega arith)

@@ -12,7 +12,7 @@ all_fit-requires c =
 pub returns-then-not-all_fit : goal.returns-then-not-all_fit
 returns-then-not-all_fit c =
     let pre = c.requires in
-    not_fit _ _ (rw c.subscriptions_in-subscriptions.ensures pre.0.counted) c.all_fit.ensures (not-true _ c.if-not-all_fit.true)
+    not_fit _ _ (rw c.subscriptions_in-subscriptions.ensures pre.0.counted) c.all_fit.ensures c.if-not-all_fit.true
 
 pub take_members-requires : goal.take_members-requires
 take_members-requires c =
@@ -26,5 +26,5 @@ all_stand-requires c =
 pub returns : goal.returns
 returns c =
     let pre = c.requires in
-    all_fit _ _ (rw c.subscriptions_in-subscriptions.ensures pre.0.counted) c.all_fit.ensures (not-false _ c.if-not-all_fit.false)
+    all_fit _ _ (rw c.subscriptions_in-subscriptions.ensures pre.0.counted) c.all_fit.ensures c.if-not-all_fit.false
     c.all_stand.ensures

@@ -11,12 +11,12 @@ use Rattle.fairness.proofs.weigh.Goals as goal
 pub returns-then-not-is_member : goal.returns-then-not-is_member
 unfolding entry_of
 returns-then-not-is_member c =
-    weigh_passes _ _ _ _ c.requires.0 c.is_member.ensures (not-true _ c.if-not-is_member.true)
+    weigh_passes _ _ _ _ c.requires.0 c.is_member.ensures c.if-not-is_member.true
 
 pub returns-then-found-ne0 : goal.returns-then-found-ne0
 unfolding entry_of
 returns-then-found-ne0 c =
-    weigh_again _ _ _ _ c.requires.0 c.is_member.ensures (not-false _ c.if-not-is_member.false) c.if-found-ne0.true
+    weigh_again _ _ _ _ c.requires.0 c.is_member.ensures c.if-not-is_member.false c.if-found-ne0.true
 
 pub covers-requires : goal.covers-requires
 covers-requires c =
@@ -27,12 +27,12 @@ pub returns-then-covers : goal.returns-then-covers
 unfolding entry_of pick
 returns-then-covers c =
     let said = rw c.entry_at-e.ensures at c.covers.ensures in
-    weigh-first _ _ _ _ c.requires.0 c.is_member.ensures (not-false _ c.if-not-is_member.false) (omega arith)
+    weigh-first _ _ _ _ c.requires.0 c.is_member.ensures c.if-not-is_member.false (omega arith)
     true said c.if-covers.true
 
 pub returns : goal.returns
 unfolding entry_of pick
 returns c =
     let said = rw c.entry_at-e.ensures at c.covers.ensures in
-    weigh-first _ _ _ _ c.requires.0 c.is_member.ensures (not-false _ c.if-not-is_member.false) (omega arith)
+    weigh-first _ _ _ _ c.requires.0 c.is_member.ensures c.if-not-is_member.false (omega arith)
     false said c.if-covers.false

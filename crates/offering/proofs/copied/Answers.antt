@@ -8,7 +8,7 @@ use Rattle.meaning.specs.Forest.{steps_from}
 use Rattle.shapes.specs.Shapes.{steps_in}
 use Rattle.shapes.specs.Steps.{step_in, parent-low}
 use Rattle.laws.specs.Children.{children_of}
-use Rattle.offering.specs.CopyingLoop.{Copying, copy_starts, copy_step, copy_ends, copy_done}
+use Rattle.offering.specs.CopyingLoop.{Copying, copy_starts, copy_step_lem, copy_ends, copy_done}
 use Rattle.offering.proofs.copied.Goals as goal
 
 pub loop-k-init : goal.loop-k-init
@@ -29,7 +29,7 @@ pub loop-k-preserved : goal.loop-k-preserved
 unfolding step_in
 loop-k-preserved c =
     let l = c.loop-k in
-    copy_step l.invariant (omega arith) c.if-s-v.false _ c.moved.ensures _ refl refl
+    copy_step_lem l.invariant (omega arith) c.if-s-v.false _ c.moved.ensures _ refl refl
 
 pub returns : goal.returns
 returns c = copy_done c.loop-k.invariant (omega arith)

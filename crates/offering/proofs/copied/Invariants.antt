@@ -8,7 +8,7 @@ use Rattle.meaning.specs.Forest.{steps_from}
 use Rattle.shapes.specs.Shapes.{steps_in}
 use Rattle.shapes.specs.Steps.{step_in, parent-low}
 use Rattle.laws.specs.Children.{children_of}
-use Rattle.offering.specs.CopyingLoop.{Copying, copy_starts, copy_step, copy_ends, copy_done}
+use Rattle.offering.specs.CopyingLoop.{Copying, copy_starts, copy_step_lem, copy_ends, copy_done}
 use Rattle.offering.proofs.copied.Given as goal
 
 abbrev pub invariant-loop-k : goal.invariant-loop-k

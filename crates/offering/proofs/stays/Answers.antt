@@ -48,7 +48,7 @@ loop-k-preserved-then-not-covers c =
     let b = c.branch-b in
     let v = c.covers in
     let put = copied-beside _ _ _ i.0.sound c.copied-r.ensures in
-    (left-remains i.0 (omega arith) b.ensures v.ensures (not-true v.result c.if-not-covers.true) _ put, i.1)
+    (left-remains i.0 (omega arith) b.ensures v.ensures c.if-not-covers.true _ put, i.1)
 
 pub loop-k-smaller : goal.loop-k-smaller
 unfolding step_in branch_at
@@ -62,7 +62,7 @@ loop-k-preserved c =
     let i = c.loop-k.invariant in
     let b = c.branch-b in
     let v = c.covers in
-    (left-goes i.0 (omega arith) b.ensures v.ensures (not-false v.result c.if-not-covers.false), i.1)
+    (left-goes i.0 (omega arith) b.ensures v.ensures c.if-not-covers.false, i.1)
 
 pub returns : goal.returns
 returns c = left-done c.loop-k.invariant.0 (omega arith)

@@ -10,7 +10,7 @@ put_members-requires c =
 
 pub put_pattern-requires : goal.put_pattern-requires
 put_pattern-requires c =
-    (c.requires.0, omega (arith, c.requires.1, entry_length c.args.e, c.put_members.auto.0))
+    (c.requires.0, omega (arith, c.requires.1, entry_length c.args.e, c.put_members.auto.out))
 
 pub returns : goal.returns
 returns c =
