@@ -13,7 +13,6 @@ use Rattle.settling.specs.Settled.{covers_at}
 use Rattle.settling.specs.SettlingLoop.{covers-itself, covers_other_lem}
 use Rattle.settling.proofs.first_covered.Goals as goal
 use Rattle.settling.proofs.first_covered.Goals.{then-k-i+else-covers, else-k-i}
-use Rattle.std.proofs.Common.{eq-eqb, ne_eqb}
 
 pub loop-k-init : goal.loop-k-init
 loop-k-init c = (c.requires.2, refl)
@@ -36,9 +35,9 @@ loop-k-preserved c =
     let here : covers_at (table_of c.args.t) c.args.i l.k ≡ false =
     elim c.if-k-i.branch [
       then-k-i+else-covers w ↦
-        sym (covers_other_lem c.args.t c.args.i l.k c.requires.0 c.requires.1 (omega arith) (rw (ne_eqb l.k c.args.i w.if-k-i.true)))
+        sym (covers_other_lem c.args.t c.args.i l.k c.requires.0 c.requires.1 (omega arith) w.if-k-i.true)
         ∙ sym w.covers.ensures ∙ w.if-covers.false
-      | else-k-i w ↦ covers-itself c.args.t c.args.i l.k (rw (eq-eqb l.k c.args.i w.if-k-i.false))
+      | else-k-i w ↦ covers-itself c.args.t c.args.i l.k w.if-k-i.false
     ] in
     (omega arith, scan-goes_on _ _ _ _ (omega arith) here l.invariant.1)
 

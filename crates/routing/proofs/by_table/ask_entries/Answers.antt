@@ -1,0 +1,32 @@
+-- `routing::by_table::ask_entries` meets its contract: what is left from entry j on gives the whole route.
+use Prim.Native.Nat.{◌-◌}
+use native.Mathlib.Omega.{arith}
+use borrow.Author.Rules.{rules}
+use Rattle.shapes.specs.Shapes.{nodes_at}
+use Rattle.reading.specs.SheetPlaces.{sheet_at}
+use Rattle.tables.specs.TableJudged.{entry_here}
+use Rattle.tables.specs.TableSection.{table_at}
+use Rattle.routing.specs.Tabling.{start, TryingEntries, entries-start, entries-go_on, entries-end}
+use Rattle.routing.proofs.by_table.ask_entries.Goals as goal
+
+pub loop-j-init : goal.loop-j-init
+unfolding start
+loop-j-init c = entries-start
+
+pub ask_entry-so_far-requires : goal.ask_entry-so_far-requires
+ask_entry-so_far-requires c =
+    let l = c in
+    let pre = l.requires in
+    let here = entry_here _ _ pre.1 l.loop-j.j _ (omega arith) c.entry_at-e.ensures in
+    (pre.0, pre.2, here.1, omega (arith, pre.1.few))
+
+pub loop-j-preserved : goal.loop-j-preserved
+loop-j-preserved c =
+    let l = c in
+    let pre = l.requires in
+    let here = entry_here _ _ pre.1 l.loop-j.j _ (omega arith) c.entry_at-e.ensures in
+    entries-go_on l.loop-j.invariant (omega (arith, pre.1.counted)) (omega (arith, pre.0.few, pre.0.counted))
+    here.0 c.ask_entry-so_far.ensures
+
+pub returns : goal.returns
+returns c = entries-end c.loop-j.invariant (omega (arith, c.requires.1.counted))

@@ -1,0 +1,16 @@
+-- `routing::by_table::ask_entries` meets its contract: what is left from entry j on gives the whole route.
+use Prim.Native.Nat.{◌-◌}
+use native.Mathlib.Omega.{arith}
+use borrow.Author.Rules.{rules}
+use Rattle.shapes.specs.Shapes.{nodes_at}
+use Rattle.reading.specs.SheetPlaces.{sheet_at}
+use Rattle.tables.specs.TableJudged.{entry_here}
+use Rattle.tables.specs.TableSection.{table_at}
+use Rattle.routing.specs.Tabling.{start, TryingEntries, entries-start, entries-go_on, entries-end}
+use Rattle.routing.proofs.by_table.ask_entries.Given as goal
+
+abbrev pub invariant-loop-j : goal.invariant-loop-j
+invariant-loop-j l = TryingEntries (nodes_at l.d l.at l.n) (sheet_at l.s).patterns (table_at l.t) l.j l.so_far
+
+abbrev pub decreases-loop-j : goal.decreases-loop-j
+decreases-loop-j l = l.entry_count - l.j

@@ -1,0 +1,21 @@
+-- `routing::plain_route` meets its contract: by the places that were reached.
+use mathlib.Core.Path.{sym, ◌∙◌}
+use borrow.Author.Rules.{rules}
+use Rattle.documents.specs.DocumentJudged.{sheet-document-stand}
+use Rattle.routing.specs.RouteAnswers.{plain-refused, plain-delivered}
+use Rattle.routing.proofs.plain_route.Goals as goal
+
+pub deliver-requires : goal.deliver-requires
+deliver-requires c =
+    let x = c in
+    let judged = sym x.sheet_and_document.ensures ∙ x.in-At.is in
+    sheet-document-stand _ _ _ _ _ judged c.node_place.ensures.0 c.node_count.ensures.0
+
+pub returns-in-At : goal.returns-in-At
+returns-in-At c =
+    let x = c in
+    let judged = sym x.sheet_and_document.ensures ∙ x.in-At.is in
+    plain-delivered _ _ judged c.node_place.ensures.0 c.node_count.ensures.0 c.deliver.ensures
+
+pub returns-in-No : goal.returns-in-No
+returns-in-No c = plain-refused _ _ (sym c.sheet_and_document.ensures ∙ c.in-No.is)

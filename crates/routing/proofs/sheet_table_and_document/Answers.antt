@@ -1,0 +1,13 @@
+-- `routing::sheet_table_and_document` meets its contract.
+use Rattle.base.specs.Loops.{and_then}
+use borrow.Author.Rules.{rules}
+use Rattle.routing.specs.ThreeJudged.{three_place}
+use Rattle.routing.proofs.sheet_table_and_document.Goals as goal
+
+pub returns-in-At : goal.returns-in-At
+unfolding three_place and_then
+returns-in-At c = rw (← c.fair_table.ensures, c.in-At.is) c.document.ensures
+
+pub returns-in-No : goal.returns-in-No
+unfolding three_place and_then
+returns-in-No c = rw (← c.fair_table.ensures, c.in-No.is)

@@ -1,0 +1,39 @@
+-- `routing::wanting::seek_entries` meets its contract: asking from entry j on gives what asking all gives.
+use Prim.Native.Nat.{◌-◌}
+use native.Mathlib.Omega.{arith}
+use borrow.Author.Rules.{rules}
+use Rattle.shapes.specs.Shapes.{nodes_at}
+use Rattle.reading.specs.SheetPlaces.{sheet_at}
+use Rattle.tables.specs.TableJudged.{entry_here}
+use Rattle.tables.specs.TableSection.{table_at}
+use Rattle.routing.specs.Wanting.{SeekingEntries, seeking_entries_starts, seeking_entries-stops, seeking_entries-goes_on, seeking_entries-ends, all_asked}
+use Rattle.routing.proofs.wanting.seek_entries.Goals as goal
+
+pub loop-j-init : goal.loop-j-init
+loop-j-init c = seeking_entries_starts
+
+pub seek_entry-asked-requires : goal.seek_entry-asked-requires
+seek_entry-asked-requires c =
+    let l = c in
+    let pre = l.requires in
+    let here = entry_here _ _ pre.1 l.loop-j.j _ (omega arith) c.entry_at-e.ensures in
+    (pre.0, pre.2, here.1, omega (arith, pre.1.few, l.loop-j.invariant.few))
+
+pub returns-then-asked : goal.returns-then-asked
+returns-then-asked c =
+    let l = c in
+    let pre = l.requires in
+    let here = entry_here _ _ pre.1 l.loop-j.j _ (omega arith) c.entry_at-e.ensures in
+    all_asked _ _ _ (seeking_entries-stops l.loop-j.invariant (omega (arith, pre.1.counted)) here.0 c.seek_entry-asked.ensures c.if-asked.true)
+
+pub loop-j-preserved : goal.loop-j-preserved
+loop-j-preserved c =
+    let l = c in
+    let pre = l.requires in
+    let here = entry_here _ _ pre.1 l.loop-j.j _ (omega arith) c.entry_at-e.ensures in
+    seeking_entries-goes_on l.loop-j.invariant (omega (arith, pre.1.counted)) here.0 c.seek_entry-asked.ensures
+    (omega (arith, pre.0.few, pre.0.counted)) c.if-asked.false
+
+pub returns : goal.returns
+returns c =
+    all_asked _ _ _ (seeking_entries-ends c.loop-j.invariant (omega (arith, c.requires.1.counted)))

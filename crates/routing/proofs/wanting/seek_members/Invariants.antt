@@ -1,0 +1,15 @@
+-- `routing::wanting::seek_members` meets its contract: asking from subscription i on gives what asking all gives.
+use Prim.Native.Nat.{◌-◌}
+use mathlib.Core.Path.{ap}
+use native.Mathlib.Omega.{arith}
+use Rattle.meaning.specs.Satisfying.{satisfies}
+use Rattle.shapes.specs.Shapes.{nodes_at}
+use Rattle.reading.specs.SheetPlaces.{sheet_at}
+use Rattle.routing.specs.Wanting.{SeekingMembers, seeking_starts, seeking_stops, seeking_goes_on, seeking_ends}
+use Rattle.routing.proofs.wanting.seek_members.Given as goal
+
+abbrev pub invariant-loop-i : goal.invariant-loop-i
+invariant-loop-i l = SeekingMembers (nodes_at l.d l.at l.n) (sheet_at l.s).patterns l.members l.tried l.i l.so_far
+
+abbrev pub decreases-loop-i : goal.decreases-loop-i
+decreases-loop-i l = l.count - l.i

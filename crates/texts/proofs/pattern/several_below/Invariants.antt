@@ -1,0 +1,16 @@
+-- `texts::pattern::several_below` meets its contract. The loop: the branches counted and those still to come are all.
+use Prim.Native.Nat.{◌+◌, ◌-◌, ◌≤◌}
+use mathlib.Core.Path.{◌≡◌}
+use native.Mathlib.Omega.{arith}
+use borrow.Author.Rules.{rules}
+use Rattle.laws.specs.Children.{children_from, children_of}
+use Rattle.shapes.specs.Shapes.{steps_in}
+use Rattle.shapes.specs.Steps.{step_in}
+use Rattle.texts.specs.BranchTexts.{branches, branch-counted, branch_not, all_counted}
+use Rattle.texts.proofs.pattern.several_below.Given as goal
+
+abbrev pub invariant-loop-k : goal.invariant-loop-k
+invariant-loop-k l = (l.n ≤ l.k) × (l.n + branches (children_from (steps_in l.p) l.v l.k) ≡ branches (children_of (steps_in l.p) l.v))
+
+abbrev pub decreases-loop-k : goal.decreases-loop-k
+decreases-loop-k l = l.p.count - l.k
