@@ -1,0 +1,29 @@
+-- `lines::drawn::near_roots` meets its contract. The loop: those counted and those still to come are all.
+use Prim.Native.Nat.{◌+◌, ◌-◌, ◌≤◌}
+use mathlib.Core.Path.{◌≡◌, sym, ◌∙◌}
+use native.Mathlib.Omega.{arith}
+use borrow.Author.Rules.{rules}
+use Rattle.shapes.specs.Steps.{step_in}
+use Rattle.lines.specs.NearRoots.{near_roots_from, near-counted, near_not, near-ends}
+use Rattle.lines.proofs.drawn.near_roots.Goals as goal
+
+pub loop-k-init : goal.loop-k-init
+loop-k-init c = (omega arith, omega arith)
+
+pub loop-k-preserved-then-near_root : goal.loop-k-preserved-then-near_root
+unfolding step_in
+loop-k-preserved-then-near_root c =
+    let asked = c in
+    let l = asked in
+    (omega arith, near-counted _ l.requires l.loop-k.k _ _ l.loop-k.invariant.1 (omega arith) (sym asked.near_root.ensures ∙ c.if-near_root.true))
+
+pub loop-k-preserved : goal.loop-k-preserved
+unfolding step_in
+loop-k-preserved c =
+    let asked = c in
+    let l = asked in
+    (omega arith, near_not _ l.requires l.loop-k.k _ _ l.loop-k.invariant.1 (omega arith) (sym asked.near_root.ensures ∙ c.if-near_root.false))
+
+pub returns : goal.returns
+unfolding near_roots_from
+returns c = near-ends _ c.requires c.loop-k.k _ _ c.loop-k.invariant.1 (omega arith)

@@ -1,0 +1,14 @@
+-- `lines::drawn::near_roots` meets its contract. The loop: those counted and those still to come are all.
+use Prim.Native.Nat.{◌+◌, ◌-◌, ◌≤◌}
+use mathlib.Core.Path.{◌≡◌, sym, ◌∙◌}
+use native.Mathlib.Omega.{arith}
+use borrow.Author.Rules.{rules}
+use Rattle.shapes.specs.Steps.{step_in}
+use Rattle.lines.specs.NearRoots.{near_roots_from, near-counted, near_not, near-ends}
+use Rattle.lines.proofs.drawn.near_roots.Given as goal
+
+abbrev pub invariant-loop-k : goal.invariant-loop-k
+invariant-loop-k l = (l.n ≤ l.k) × (l.n + near_roots_from l.p l.k ≡ near_roots_from l.p 0)
+
+abbrev pub decreases-loop-k : goal.decreases-loop-k
+decreases-loop-k l = l.p.count - l.k

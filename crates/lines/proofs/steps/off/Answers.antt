@@ -1,0 +1,9 @@
+-- `lines::steps::off` meets its contract.
+use mathlib.Core.Path.{refl}
+use borrow.Author.Rules.{rules}
+use Rattle.lines.specs.Found.{off_line}
+use Rattle.lines.proofs.steps.off.Goals as goal
+
+pub returns : goal.returns
+unfolding off_line
+returns c = rw c.no_steps.ensures refl

@@ -1,0 +1,27 @@
+-- `spelling::line::all_writable` meets its contract.
+-- The invariant: the steps that are left decide; the measure: how many are left.
+use Prim.Native.Nat.{◌-◌}
+use native.Mathlib.Omega.{arith}
+use borrow.Author.Rules.{rules}
+use Rattle.shapes.specs.Steps.{step_in}
+use Rattle.reading.specs.SheetPlaces.{sheet_at}
+use Rattle.spelling.specs.StepsWritable.{WritableSoFar, steps-start, steps_stop, steps-go_on, steps-done}
+use Rattle.spelling.proofs.line.all_writable.Goals as goal
+
+pub loop-k-init : goal.loop-k-init
+loop-k-init c = steps-start c.requires
+
+pub returns-then-not-writable : goal.returns-then-not-writable
+unfolding step_in sheet_at
+returns-then-not-writable c =
+    let l = c in
+    steps_stop l.requires l.loop-k.invariant (omega arith) c.label_at.ensures c.writable.ensures c.if-not-writable.true
+
+pub loop-k-preserved : goal.loop-k-preserved
+unfolding step_in sheet_at
+loop-k-preserved c =
+    let l = c in
+    steps-go_on l.requires l.loop-k.invariant (omega arith) c.label_at.ensures c.writable.ensures c.if-not-writable.false
+
+pub returns : goal.returns
+returns c = let l = c in steps-done l.requires l.loop-k.invariant (omega arith)
