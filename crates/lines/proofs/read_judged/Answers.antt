@@ -11,12 +11,9 @@ returns-then-not-f c = line_off _ _ _ _ c.steps_within-f.ensures (not-true _ c.i
 
 pub write_drawn-requires : goal.write_drawn-requires
 write_drawn-requires c =
-    let read = c in
-    line_formed _ _ read.args.out.now _ read.steps_within-f.ensures (not-false _ c.if-not-f.false)
+    line_formed _ _ c.args.out.now _ c.steps_within-f.ensures (not-false _ c.if-not-f.false)
 
 pub returns : goal.returns
 unfolding sheet_at
 returns c =
-    let drawn = c in
-    let read = drawn in
-    line-drawn _ _ _ _ read.steps_within-f.ensures (not-false _ drawn.if-not-f.false) _ _ drawn.write_drawn.ensures
+    line-drawn _ _ _ _ c.steps_within-f.ensures (not-false _ c.if-not-f.false) _ _ c.write_drawn.ensures

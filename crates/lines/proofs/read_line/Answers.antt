@@ -7,16 +7,12 @@ use Rattle.lines.proofs.read_line.Goals as goal
 
 pub read_judged-requires : goal.read_judged-requires
 read_judged-requires c =
-    let x = c in
-    sheet-stands _ _ (sym x.sheet.ensures ∙ x.in-At.is)
+    sheet-stands _ _ (sym c.sheet.ensures ∙ c.in-At.is)
 
 pub returns-in-At : goal.returns-in-At
 returns-in-At c =
-    let line = c in
-    let x = line in
-    line-said _ _ _ _ (sym x.sheet.ensures ∙ x.in-At.is) _ _ line.read_judged.ensures
+    line-said _ _ _ _ (sym c.sheet.ensures ∙ c.in-At.is) _ _ c.read_judged.ensures
 
 pub returns-in-No : goal.returns-in-No
 returns-in-No c =
-    let n = c in
-    line_refused _ _ _ _ (sym n.sheet.ensures ∙ n.in-No.is)
+    line_refused _ _ _ _ (sym c.sheet.ensures ∙ c.in-No.is)

@@ -9,25 +9,18 @@ use Rattle.spelling.proofs.write_given.Goals as goal
 
 pub write_line-requires : goal.write_line-requires
 write_line-requires c =
-    let taken = c in
-    let x = taken in
-    let judged = x in (
+    let judged = c in (
       judged.requires,
-      rw taken.pattern_at.ensures (only_taken _ _ _ (sym judged.only_pattern.ensures ∙ x.in-At.is)).1,
+      rw c.pattern_at.ensures (only_taken _ _ _ (sym judged.only_pattern.ensures ∙ c.in-At.is)).1,
     )
 
 pub returns-in-At : goal.returns-in-At
 returns-in-At c =
-    let line = c in
-    let taken = line in
-    let x = taken in
-    let judged = x in
-    let said = bytes-said _ _ _ judged.byte_at.ensures.0 _ (sym judged.only_pattern.ensures ∙ x.in-At.is) _ taken.pattern_at.ensures in
-    gives_same output_answer _ _ _ said _ _ line.write_line.ensures
+    let said = bytes-said _ _ _ c.byte_at.ensures.0 _ (sym c.only_pattern.ensures ∙ c.in-At.is) _ c.pattern_at.ensures in
+    gives_same output_answer _ _ _ said _ _ c.write_line.ensures
 
 pub returns-in-No : goal.returns-in-No
 unfolding output_answer
 returns-in-No c =
-    let judged = c in
     gives-refusal output_answer _ _ _
-    (bytes-refused _ _ _ judged.byte_at.ensures.0 _ (sym judged.only_pattern.ensures ∙ c.in-No.is))
+    (bytes-refused _ _ _ c.byte_at.ensures.0 _ (sym c.only_pattern.ensures ∙ c.in-No.is))

@@ -18,9 +18,5 @@ numbered-requires c = (subscriptions_stand _ _ c.requires c.subscriptions_in-v.e
 
 pub returns : goal.returns
 returns c =
-    let line = c in
-    let there = line in
-    let v = there in
-    let start = v in
-    let stand = subscriptions_stand _ _ start.requires v.subscriptions_in-v.ensures in
-    gives_same output_answer _ _ _ (number_there stand start.args.i (omega arith) _ there.numbered.ensures.0) _ _ line.write_line.ensures
+    let stand = subscriptions_stand _ _ c.requires c.subscriptions_in-v.ensures in
+    gives_same output_answer _ _ _ (number_there stand c.args.i (omega arith) _ c.numbered.ensures.0) _ _ c.write_line.ensures

@@ -9,17 +9,13 @@ use Rattle.spelling.proofs.write_pattern.Goals as goal
 
 pub write_given-requires : goal.write_given-requires
 write_given-requires c =
-    let x = c in
-    sheet-stands _ _ (sym x.sheet.ensures ∙ x.in-At.is)
+    sheet-stands _ _ (sym c.sheet.ensures ∙ c.in-At.is)
 
 pub returns-in-At : goal.returns-in-At
 returns-in-At c =
-    let line = c in
-    let x = line in
-    gives_same output_answer _ _ _ (pattern_said_lem _ _ _ (sym x.sheet.ensures ∙ x.in-At.is)) _ _ line.write_given.ensures
+    gives_same output_answer _ _ _ (pattern_said_lem _ _ _ (sym c.sheet.ensures ∙ c.in-At.is)) _ _ c.write_given.ensures
 
 pub returns-in-No : goal.returns-in-No
 unfolding output_answer
 returns-in-No c =
-    let n = c in
-    gives-refusal output_answer _ _ _ (pattern-refused _ _ _ (sym n.sheet.ensures ∙ n.in-No.is))
+    gives-refusal output_answer _ _ _ (pattern-refused _ _ _ (sym c.sheet.ensures ∙ c.in-No.is))

@@ -9,17 +9,13 @@ use Rattle.spelling.proofs.write_subscription.Goals as goal
 
 pub write_numbered-requires : goal.write_numbered-requires
 write_numbered-requires c =
-    let x = c in
-    sheet-stands _ _ (sym x.sheet.ensures ∙ x.in-At.is)
+    sheet-stands _ _ (sym c.sheet.ensures ∙ c.in-At.is)
 
 pub returns-in-At : goal.returns-in-At
 returns-in-At c =
-    let line = c in
-    let x = line in
-    gives_same output_answer _ _ _ (subscription-said _ _ _ (sym x.sheet.ensures ∙ x.in-At.is)) _ _ line.write_numbered.ensures
+    gives_same output_answer _ _ _ (subscription-said _ _ _ (sym c.sheet.ensures ∙ c.in-At.is)) _ _ c.write_numbered.ensures
 
 pub returns-in-No : goal.returns-in-No
 unfolding output_answer
 returns-in-No c =
-    let n = c in
-    gives-refusal output_answer _ _ _ (subscription-refused _ _ _ (sym n.sheet.ensures ∙ n.in-No.is))
+    gives-refusal output_answer _ _ _ (subscription-refused _ _ _ (sym c.sheet.ensures ∙ c.in-No.is))

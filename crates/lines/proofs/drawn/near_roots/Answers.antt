@@ -13,16 +13,12 @@ loop-k-init c = (omega arith, omega arith)
 pub loop-k-preserved-then-near_root : goal.loop-k-preserved-then-near_root
 unfolding step_in
 loop-k-preserved-then-near_root c =
-    let asked = c in
-    let l = asked in
-    (omega arith, near-counted _ l.requires l.loop-k.k _ _ l.loop-k.invariant.1 (omega arith) (sym asked.near_root.ensures ∙ c.if-near_root.true))
+    (omega arith, near-counted _ c.requires c.loop-k.k _ _ c.loop-k.invariant.1 (omega arith) (sym c.near_root.ensures ∙ c.if-near_root.true))
 
 pub loop-k-preserved : goal.loop-k-preserved
 unfolding step_in
 loop-k-preserved c =
-    let asked = c in
-    let l = asked in
-    (omega arith, near_not _ l.requires l.loop-k.k _ _ l.loop-k.invariant.1 (omega arith) (sym asked.near_root.ensures ∙ c.if-near_root.false))
+    (omega arith, near_not _ c.requires c.loop-k.k _ _ c.loop-k.invariant.1 (omega arith) (sym c.near_root.ensures ∙ c.if-near_root.false))
 
 pub returns : goal.returns
 unfolding near_roots_from

@@ -9,12 +9,12 @@ use Rattle.lines.proofs.drawn.write_drawn.Goals as goal
 
 pub returns-then-not-known : goal.returns-then-not-known
 unfolding drawn_answer
-returns-then-not-known c = rw c.refused.ensures (gives-refusal drawn_answer _ _ _ (said_unknown _ _ (not-true _ c.if-not-known.true)))
+returns-then-not-known c = rw c.refused.ensures (gives-refusal drawn_answer _ _ _ (said_unknown _ _ c.if-not-known.true))
 
 pub returns-then-p-gt-MOST_STEPS : goal.returns-then-p-gt-MOST_STEPS
 unfolding drawn_answer
 returns-then-p-gt-MOST_STEPS c =
-    let many = said-many _ _ (not-false _ c.if-not-known.false) c.if-p-gt-MOST_STEPS.true in
+    let many = said-many _ _ c.if-not-known.false c.if-p-gt-MOST_STEPS.true in
     rw c.refused-then-p-gt-MOST_STEPS.ensures (gives-refusal drawn_answer _ _ _ many)
 
 pub near_roots-requires : goal.near_roots-requires
@@ -23,8 +23,7 @@ near_roots-requires c = c.requires (omega arith)
 pub returns-then-near_roots-gt1 : goal.returns-then-near_roots-gt1
 unfolding drawn_answer
 returns-then-near_roots-gt1 c =
-    let near = c in
-    let two = said-near _ _ (not-false _ near.if-not-known.false) (omega arith) _ near.near_roots.ensures c.if-near_roots-gt1.true in
+    let two = said-near _ _ c.if-not-known.false (omega arith) _ c.near_roots.ensures c.if-near_roots-gt1.true in
     rw c.refused-then-near_roots-gt1.ensures (gives-refusal drawn_answer _ _ _ two)
 
 pub write_pattern-requires : goal.write_pattern-requires
@@ -36,17 +35,13 @@ pattern_length-requires c = c.requires (omega arith)
 pub returns-then-write_pattern : goal.returns-then-write_pattern
 unfolding drawn_answer
 returns-then-write_pattern c =
-    let wrote = c in
-    let near = wrote in
-    let said = said-written _ _ (not-false _ near.if-not-known.false) (omega arith) _ near.near_roots.ensures (omega arith) in
-    let w = wrote.write_pattern.ensures in
+    let said = said-written _ _ c.if-not-known.false (omega arith) _ c.near_roots.ensures (omega arith) in
+    let w = c.write_pattern.ensures in
     rw c.pattern_length.ensures.0 (gives_same drawn_answer _ _ _ said _ _ (gives-written drawn_answer _ tt _ _ w.0 _ w.1 c.if-write_pattern.true))
 
 pub returns : goal.returns
 unfolding drawn_answer
 returns c =
-    let wrote = c in
-    let near = wrote in
-    let said = said-written _ _ (not-false _ near.if-not-known.false) (omega arith) _ near.near_roots.ensures (omega arith) in
-    let w = wrote.write_pattern.ensures in
+    let said = said-written _ _ c.if-not-known.false (omega arith) _ c.near_roots.ensures (omega arith) in
+    let w = c.write_pattern.ensures in
     rw c.refused-2.ensures (gives_same drawn_answer _ _ _ said _ _ (gives-no_room drawn_answer _ tt _ _ w.0 _ w.1 c.if-write_pattern.false))

@@ -8,9 +8,8 @@ use Rattle.lines.proofs.steps.at_end.Goals as goal
 
 pub returns-then-not-may_end : goal.returns-then-not-may_end
 returns-then-not-may_end c =
-    let asked = c in
-    pick_false _ _ _ _ (sym asked.may_end.ensures ∙ not-true _ asked.if-not-may_end.true) c.off.ensures
+    pick_false _ _ _ _ (sym c.may_end.ensures ∙ c.if-not-may_end.true) c.off.ensures
 
 pub returns : goal.returns
 unfolding sound_line
-returns c = pick_true _ _ _ _ (sym c.may_end.ensures ∙ not-false _ c.if-not-may_end.false) refl
+returns c = pick_true _ _ _ _ (sym c.may_end.ensures ∙ c.if-not-may_end.false) refl

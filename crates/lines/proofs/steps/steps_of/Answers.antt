@@ -29,11 +29,10 @@ loop-c-init c =
 -- no line goes on so
 pub returns-in-Stuck : goal.returns-in-Stuck
 returns-in-Stuck c =
-    let asked = c in
-    let l = asked.loop-c in
-    let line = asked.args.line.now in
+    let l = c.loop-c in
+    let line = c.args.line.now in
     let e : turn_at l.c.mode (get_or line l.c.at 0) ≡ turn.Stuck = cc in
-    let inside = asked.loop-c-test.true in
+    let inside = c.loop-c-test.true in
     reached_off _ _ _ _ (reached-stuck _ _ l.invariant inside e) c.off.ensures
 
 -- the byte leads on
@@ -43,11 +42,10 @@ loop-c-smaller-in-Moves c = omega (arith, ap (λ (x : Course). x.at) c.moved_cou
 
 pub loop-c-preserved-in-Moves : goal.loop-c-preserved-in-Moves
 loop-c-preserved-in-Moves c =
-    let asked = c in
-    let l = asked.loop-c in
-    let line = asked.args.line.now in
+    let l = c.loop-c in
+    let line = c.args.line.now in
     let e : turn_at l.c.mode (get_or line l.c.at 0) ≡ turn.Moves c.in-Moves.m = cc in
-    let inside = asked.loop-c-test.true in
+    let inside = c.loop-c-test.true in
     rw c.moved_course-c.ensures (reached_moves _ _ l.invariant inside _ e)
 
 -- a bracket opens
@@ -60,22 +58,20 @@ loop-c-smaller-in-Opens c = omega (arith, ap (λ (x : Course). x.at) c.opened_co
 
 pub loop-c-preserved-in-Opens : goal.loop-c-preserved-in-Opens
 loop-c-preserved-in-Opens c =
-    let asked = c in
-    let l = asked.loop-c in
-    let line = asked.args.line.now in
+    let l = c.loop-c in
+    let line = c.args.line.now in
     let e : turn_at l.c.mode (get_or line l.c.at 0) ≡ turn.Opens = cc in
-    let inside = asked.loop-c-test.true in
+    let inside = c.loop-c-test.true in
     let r = c.opened_course-c.ensures in
     rw (r.0, r.1) (reached-opens _ _ l.invariant inside e)
 
 -- a bracket closes that isn't open
 pub returns-then-c-eq0 : goal.returns-then-c-eq0
 returns-then-c-eq0 c =
-    let asked = c in
-    let l = asked.loop-c in
-    let line = asked.args.line.now in
+    let l = c.loop-c in
+    let line = c.args.line.now in
     let e : turn_at l.c.mode (get_or line l.c.at 0) ≡ turn.Closes = cc in
-    let inside = asked.loop-c-test.true in
+    let inside = c.loop-c-test.true in
     reached_off _ _ _ _ (reached_unopened _ _ l.invariant inside e c.if-c-eq0.true) c.off-then-c-eq0.ensures
 
 -- one that is
@@ -88,11 +84,10 @@ loop-c-smaller-in-Closes c = omega (arith, ap (λ (x : Course). x.at) c.closed_c
 
 pub loop-c-preserved-in-Closes : goal.loop-c-preserved-in-Closes
 loop-c-preserved-in-Closes c =
-    let asked = c in
-    let l = asked.loop-c in
-    let line = asked.args.line.now in
+    let l = c.loop-c in
+    let line = c.args.line.now in
     let e : turn_at l.c.mode (get_or line l.c.at 0) ≡ turn.Closes = cc in
-    let inside = asked.loop-c-test.true in
+    let inside = c.loop-c-test.true in
     rw c.closed_course-c.ensures (reached-closes _ _ l.invariant inside e (omega (arith, c.if-c-eq0.false)))
 
 -- a name
@@ -102,19 +97,17 @@ named_course-c-requires c = rw c.loop-c.invariant.counts (count_most _)
 pub loop-c-smaller-then-k-lt-MOST_STEPS : goal.loop-c-smaller-then-k-lt-MOST_STEPS
 unfolding named_course
 loop-c-smaller-then-k-lt-MOST_STEPS c =
-    let asked = c in
-    let args = asked.args in
+    let args = c.args in
     let at_name = ap (λ (x : Course). x.at) c.named_course-c.ensures in
     let name = ap (λ (x : Name). x.end) c.name_at-n.ensures.0 in
-    omega (arith, at_name, name, name-further (labels_in args.s.now) args.line.now asked.loop-c.c.at)
+    omega (arith, at_name, name, name-further (labels_in args.s.now) args.line.now c.loop-c.c.at)
 
 pub loop-c-preserved-then-k-lt-MOST_STEPS : goal.loop-c-preserved-then-k-lt-MOST_STEPS
 loop-c-preserved-then-k-lt-MOST_STEPS c =
-    let asked = c in
-    let l = asked.loop-c in
-    let line = asked.args.line.now in
+    let l = c.loop-c in
+    let line = c.args.line.now in
     let e : turn_at l.c.mode (get_or line l.c.at 0) ≡ turn.Names c.in-Names.axis = cc in
-    let inside = asked.loop-c-test.true in
+    let inside = c.loop-c-test.true in
     let name = c.name_at-n.ensures in
     let r = reached_names _ _ l.invariant inside _ _ e name.0 name.1 in
     rw (c.named_course-c.ensures, c.step_found-x.ensures) r
@@ -123,19 +116,17 @@ loop-c-preserved-then-k-lt-MOST_STEPS c =
 pub loop-c-smaller : goal.loop-c-smaller
 unfolding named_course
 loop-c-smaller c =
-    let asked = c in
-    let args = asked.args in
+    let args = c.args in
     let at_name = ap (λ (x : Course). x.at) c.named_course-c.ensures in
     let name = ap (λ (x : Name). x.end) c.name_at-n.ensures.0 in
-    omega (arith, at_name, name, name-further (labels_in args.s.now) args.line.now asked.loop-c.c.at)
+    omega (arith, at_name, name, name-further (labels_in args.s.now) args.line.now c.loop-c.c.at)
 
 pub loop-c-preserved : goal.loop-c-preserved
 loop-c-preserved c =
-    let asked = c in
-    let l = asked.loop-c in
-    let line = asked.args.line.now in
+    let l = c.loop-c in
+    let line = c.args.line.now in
     let e : turn_at l.c.mode (get_or line l.c.at 0) ≡ turn.Names c.in-Names.axis = cc in
-    let inside = asked.loop-c-test.true in
+    let inside = c.loop-c-test.true in
     let name = c.name_at-n.ensures in
     let r = reached_names _ _ l.invariant inside _ _ e name.0 name.1 in
     let room = l.invariant.room in

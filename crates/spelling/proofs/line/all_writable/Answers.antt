@@ -14,14 +14,12 @@ loop-k-init c = steps-start c.requires
 pub returns-then-not-writable : goal.returns-then-not-writable
 unfolding step_in sheet_at
 returns-then-not-writable c =
-    let l = c in
-    steps_stop l.requires l.loop-k.invariant (omega arith) c.label_at.ensures c.writable.ensures c.if-not-writable.true
+    steps_stop c.requires c.loop-k.invariant (omega arith) c.label_at.ensures c.writable.ensures (rw c.if-not-writable.true)
 
 pub loop-k-preserved : goal.loop-k-preserved
 unfolding step_in sheet_at
 loop-k-preserved c =
-    let l = c in
-    steps-go_on l.requires l.loop-k.invariant (omega arith) c.label_at.ensures c.writable.ensures c.if-not-writable.false
+    steps-go_on c.requires c.loop-k.invariant (omega arith) c.label_at.ensures c.writable.ensures (rw c.if-not-writable.false)
 
 pub returns : goal.returns
 returns c = let l = c in steps-done l.requires l.loop-k.invariant (omega arith)

@@ -1,0 +1,44 @@
+-- `build` meets its contract. The rounds made so far and what is left of the build give the whole; the measure is the steps that are left.
+use mathlib.Core.Path.{◌≡◌, ◌∙◌, ap}
+use native.Mathlib.Omega.{arith}
+use borrow.Author.Rules.{rules}
+use Prim.Native.Nat.{◌≤◌}
+use Rattle.meaning.specs.Building.{steps_together}
+use Rattle.laws.specs.Rounds.{round-saves}
+use Rattle.shapes.specs.Shapes.{table_of, WellFormedTable}
+use Rattle.building.specs.Counting.{build_settled, build_from, InRounds, rounds-start, rounds-go_on, rounds-end}
+use Rattle.building.proofs.build.Goals as goal
+
+pub loop-left-init : goal.loop-left-init
+loop-left-init c =
+    let r = c.settle-settled in
+    (rounds-start _ _, r.ensures.1, c.steps_together-left.ensures.0, omega arith)
+
+pub one_more-m-requires : goal.one_more-m-requires
+one_more-m-requires c =
+    let l = c.loop-left in
+    (l.invariant.1, omega (arith, l.invariant.0.few))
+
+pub loop-left-smaller : goal.loop-left-smaller
+loop-left-smaller c =
+    let l = c.loop-left in
+    let saved = round-saves (table_of l.m.table) (omega arith) in
+    omega (arith, c.steps_together-left-in-loop-left.ensures.0, ap steps_together c.one_more-m.ensures.0)
+
+pub loop-left-preserved : goal.loop-left-preserved
+loop-left-preserved c =
+    let l = c.loop-left in
+    let r = c.one_more-m.ensures in
+    (rw (r.1, r.0) (rounds-go_on l.invariant.0 (omega arith)), r.2, c.steps_together-left-in-loop-left.ensures.0, l.invariant.3)
+
+pub returns : goal.returns
+unfolding build_from
+returns c =
+    let s = c.settle-settled in
+    let l = c.loop-left in
+    let e = rounds-end l.invariant.0 (omega arith) in (
+      e.0 ∙ ap (λ es. (build_settled c.args.limit es).entries) s.ensures.0,
+      e.1 ∙ ap (λ es. (build_settled c.args.limit es).rounds) s.ensures.0,
+      omega (arith, l.invariant.0.few, ap steps_together s.ensures.0),
+      l.invariant.1,
+    )

@@ -1,0 +1,9 @@
+-- `round` meets its contract: a merge or a cut, then settling.
+use mathlib.Core.Path.{◌∙◌, ap}
+use Rattle.meaning.specs.Building.{settle, round}
+use borrow.Author.Rules.{rules}
+use Rattle.building.proofs.rounds.round.Goals as goal
+
+pub returns : goal.returns
+unfolding round
+returns c = (c.settle-settled.ensures.0 ∙ ap settle c.merge_or_cut-changed.ensures.0, c.settle-settled.ensures.1)
