@@ -17,6 +17,7 @@ use Rattle.meaning.specs.Numbers.{most_entries}
 -- what is in a list with one element more
 last-gives : {A : Type 0} {y : A} (xs : List A) (x : A) → Memᴰ y (xs ++ (x ∷ [])) → (y ≡ x) ⊎ Memᴰ y xs
 last-gives [] x (Memᴰ.head e) = inl e
+last-gives {y = y} [] x (Memᴰ.tail m) = elim m [ ]
 last-gives (z ∷ zs) x (Memᴰ.head e) = inr (Memᴰ.head e)
 last-gives (z ∷ zs) x (Memᴰ.tail m) = ⊎_elim inl (λ k. inr (Memᴰ.tail k)) (last-gives zs x m)
 

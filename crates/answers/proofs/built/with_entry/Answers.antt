@@ -2,11 +2,7 @@
 use mathlib.Core.Path.{refl}
 use Rattle.answers.specs.Growing.{grown-table, grown-sound}
 use borrow.Author.Rules.{rules}
-use Rattle.answers.proofs.built.with_entry.Statement.{statement}
-use Rattle.answers.proofs.built.with_entry.Tie as tie
+use Rattle.answers.proofs.built.with_entry.Goals as goal
 
-returns : tie.Need-returns
+pub returns : goal.returns
 returns c = (grown-table _ c.requires.0 _ c.requires.1, refl, grown-sound _ c.requires.0 _ c.requires.1 c.requires.2)
-
-pub with-entry-spec : {M : Type 1} → statement M
-with-entry-spec = tie.close (tie.spec (λ c. search rules) (λ c. search rules) (λ c. search rules) returns)

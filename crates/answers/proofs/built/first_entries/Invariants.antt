@@ -1,0 +1,15 @@
+-- `answers::built::first_entries` meets its contract: so far there is one entry for each of the first subscriptions.
+use Prim.Native.Nat.{◌-◌}
+use mathlib.Core.Path.{refl}
+use native.Mathlib.Omega.{arith}
+use borrow.Author.Rules.{rules}
+use Rattle.reading.specs.SheetPlaces.{sheet_at}
+use Rattle.meaning.specs.Calls.{subscription}
+use Rattle.answers.specs.Growing.{FirstOnes, first_none, first_more, first_all}
+use Rattle.answers.proofs.built.first_entries.Given as goal
+
+abbrev pub invariant-loop-i : goal.invariant-loop-i
+invariant-loop-i l = FirstOnes (sheet_at l.s).patterns l.i l.t
+
+abbrev pub decreases-loop-i : goal.decreases-loop-i
+decreases-loop-i l = l.v.count - l.i

@@ -1,0 +1,18 @@
+-- `answers::merge` meets its contract: the sheet is judged first, and a refusal leaves the output as found.
+use mathlib.Core.Path.{sym, ◌∙◌}
+use Rattle.reading.specs.SheetJudged.{sheet-stands}
+use Rattle.answers.specs.Says.{merge-said, merge-refused}
+use Rattle.answers.specs.Outcome.{merge-refuses, merge-same}
+use borrow.Author.Rules.{rules}
+use Rattle.answers.proofs.merge.Goals as goal
+
+pub merge_numbered-requires : goal.merge_numbered-requires
+merge_numbered-requires c = sheet-stands _ _ (sym c.sheet.ensures ∙ c.in-At.is)
+
+pub returns-in-At : goal.returns-in-At
+returns-in-At c =
+    let x = c in
+    merge-same _ _ _ (merge-said _ _ _ _ (sym x.sheet.ensures ∙ x.in-At.is)) _ _ c.merge_numbered.ensures
+
+pub returns-in-No : goal.returns-in-No
+returns-in-No c = merge-refuses _ _ _ (merge-refused _ _ _ _ (sym c.sheet.ensures ∙ c.in-No.is))
