@@ -1,0 +1,20 @@
+-- `printing::printed::put_text` meets its contract: a short input and a sheet that is refused give a refusal, any other sheet its table.
+use native.Mathlib.Omega.{arith}
+use Rattle.printing.specs.Printed.{put-short, put_no, put_yes, part_stands}
+use borrow.Author.Rules.{rules}
+use Rattle.printing.proofs.printed.put_text.Goals as goal
+
+pub returns-then-input-lt2 : goal.returns-then-input-lt2
+returns-then-input-lt2 c = put-short _ _ _ c.put_refused.ensures c.if-input-lt2.true
+
+pub put_built-requires : goal.put_built-requires
+put_built-requires c = part_stands _ _ _ c.sheet.ensures c.in-At.is
+
+pub returns-in-At : goal.returns-in-At
+returns-in-At c =
+    let limit = c.pair_at-limit.ensures.0 in
+    put_yes _ _ _ _ _ _ (omega arith) c.sheet.ensures c.in-At.is limit c.put_built.ensures
+
+pub returns-in-No : goal.returns-in-No
+returns-in-No c =
+    put_no _ _ _ _ _ (omega arith) c.sheet.ensures c.in-No.is c.put_refused-in-No.ensures

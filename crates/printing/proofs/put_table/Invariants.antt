@@ -1,0 +1,16 @@
+-- `printing::put_table` meets its contract. The totals; then the loop: what is left of the entries, put from here, gives what
+-- all of them give.
+use Prim.Native.Nat.{◌-◌}
+use mathlib.Core.Path.{◌∙◌}
+use native.Mathlib.Omega.{arith}
+use Rattle.shapes.specs.TableValues.{entry-sound}
+use Rattle.texts.specs.PutText.{LeftToPut, left-first, left-goes_on, left_none, left-same, put_then, put_is, same-room}
+use Rattle.labels.specs.LabelPlaces.{labels_in}
+use Rattle.printing.specs.TableTexts.{entries_text, entry_here, entries-end, table_text_lem}
+use Rattle.printing.proofs.put_table.Given as goal
+
+abbrev pub invariant-loop-i : goal.invariant-loop-i
+invariant-loop-i l = LeftToPut l.initial.out l.initial.next (entries_text (labels_in l.s) l.subscriptions l.t 0) l.out l.next (entries_text (labels_in l.s) l.subscriptions l.t l.i)
+
+abbrev pub decreases-loop-i : goal.decreases-loop-i
+decreases-loop-i l = l.t.count - l.i
