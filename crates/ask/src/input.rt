@@ -1,7 +1,7 @@
 // The parts of a question, read from standard input.
 ghost use Rattle.io.specs.Counts.{IsPrefixLen};
 
-use libc::STDIN_FILENO;
+use crate::STDIN_FILENO;
 
 // What stands where a question may begin.
 #[derive(Clone, Copy)]

@@ -8,6 +8,12 @@ mod output; // output.rt: the values of a line
 
 use input::First;
 
+// The descriptor of standard input, which the parts of a question come from.
+const STDIN_FILENO: i32 = 0;
+
+// The descriptor of standard output, which the values of a line go to.
+const STDOUT_FILENO: i32 = 1;
+
 // A program has to end: no stream is longer, since a question takes a microsecond or more.
 const MOST_QUESTIONS: u64 = 281474976710656;
 

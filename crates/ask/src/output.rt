@@ -1,5 +1,5 @@
 // The values of a line, written to standard output.
-use libc::STDOUT_FILENO;
+use crate::STDOUT_FILENO;
 
 pub fn text(t: &[u8]) {
     io::write_all(STDOUT_FILENO, t);

@@ -1,7 +1,11 @@
 // Reads two bytes of limit and then a sheet from standard input, and prints the table that is built, or the refusal.
 #![tactic(auto)]
 
-use libc::{STDIN_FILENO, STDOUT_FILENO};
+// The descriptor of standard input.
+const STDIN_FILENO: i32 = 0;
+
+// The descriptor of standard output.
+const STDOUT_FILENO: i32 = 1;
 
 fn main() {
     // No sound sheet has more than 18,693 bytes: one more decides every longer input.
