@@ -1,0 +1,17 @@
+-- `hub_bench::bench_build` meets its contract: the number, the rounds and the length of the hub's answer, and what it writes.
+use borrow.Author.Rules.{rules}
+use Rattle.meaning.specs.Given.{refusal, gives, built_given}
+use Rattle.laws.specs.AnswerNumbers.{by_number_lem, build_told}
+use Rattle.hub_bench.proofs.bench_build.Goals as goal
+
+pub returns-in-Refused : goal.returns-in-Refused
+unfolding built_given refusal
+returns-in-Refused c =
+    let given = c.build.ensures in
+    record { answer = by_number_lem built_given (build_told _ _ _) c.in-Refused.is given.answer; output = given.output }
+
+pub returns-in-Wrote : goal.returns-in-Wrote
+unfolding built_given gives
+returns-in-Wrote c =
+    let given = c.build.ensures in
+    record { answer = by_number_lem built_given (build_told _ _ _) c.in-Wrote.is given.answer; output = given.output }

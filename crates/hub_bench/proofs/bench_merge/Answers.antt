@@ -1,0 +1,17 @@
+-- `hub_bench::bench_merge` meets its contract: the number, the mark and the length of the hub's answer, and what it writes.
+use borrow.Author.Rules.{rules}
+use Rattle.meaning.specs.Given.{refusal, gives, merged_given}
+use Rattle.laws.specs.AnswerNumbers.{by_number_lem, merge_told}
+use Rattle.hub_bench.proofs.bench_merge.Goals as goal
+
+pub returns-in-Refused : goal.returns-in-Refused
+unfolding merged_given refusal
+returns-in-Refused c =
+    let given = c.merge.ensures in
+    record { answer = by_number_lem merged_given (merge_told _ _ _ _) c.in-Refused.is given.answer; output = given.output }
+
+pub returns-in-Wrote : goal.returns-in-Wrote
+unfolding merged_given gives
+returns-in-Wrote c =
+    let given = c.merge.ensures in
+    record { answer = by_number_lem merged_given (merge_told _ _ _ _) c.in-Wrote.is given.answer; output = given.output }

@@ -1,0 +1,17 @@
+-- `hub_bench::bench_read_line` meets its contract: the number, the place and the length of the hub's answer, and what it writes.
+use borrow.Author.Rules.{rules}
+use Rattle.meaning.specs.Given.{refusal, gives, lined_given}
+use Rattle.laws.specs.AnswerNumbers.{by_number_lem, read_line_told}
+use Rattle.hub_bench.proofs.bench_read_line.Goals as goal
+
+pub returns-in-Refused : goal.returns-in-Refused
+unfolding lined_given refusal
+returns-in-Refused c =
+    let given = c.read_line.ensures in
+    record { answer = by_number_lem lined_given (read_line_told _ _ _) c.in-Refused.is given.answer; output = given.output }
+
+pub returns-in-Wrote : goal.returns-in-Wrote
+unfolding lined_given gives
+returns-in-Wrote c =
+    let given = c.read_line.ensures in
+    record { answer = by_number_lem lined_given (read_line_told _ _ _) c.in-Wrote.is given.answer; output = given.output }

@@ -1,0 +1,17 @@
+-- `hub_bench::bench_write_pattern` meets its contract: the number and the length of the hub's answer, and what it writes.
+use borrow.Author.Rules.{rules}
+use Rattle.meaning.specs.Given.{refusal, gives, output_given}
+use Rattle.laws.specs.AnswerNumbers.{by_number_lem, write_pattern_told}
+use Rattle.hub_bench.proofs.bench_write_pattern.Goals as goal
+
+pub returns-in-Refused : goal.returns-in-Refused
+unfolding output_given refusal
+returns-in-Refused c =
+    let given = c.write_pattern.ensures in
+    record { answer = by_number_lem output_given (write_pattern_told _ _ _) c.in-Refused.is given.answer; output = given.output }
+
+pub returns-in-Wrote : goal.returns-in-Wrote
+unfolding output_given gives
+returns-in-Wrote c =
+    let given = c.write_pattern.ensures in
+    record { answer = by_number_lem output_given (write_pattern_told _ _ _) c.in-Wrote.is given.answer; output = given.output }
