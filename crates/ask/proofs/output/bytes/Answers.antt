@@ -1,0 +1,20 @@
+-- Every byte has its two places in the line: i is at most 65,535, and the line keeps its length. The measure is what is left.
+use Prim.Native.Nat.{◌≤◌, ◌-◌}
+use mathlib.Core.Path.{◌≡◌}
+use lib.ListN.{length, length-set, length-take}
+use native.Mathlib.Omega.{arith}
+use borrow.Author.Tests.{ltb-true}
+use borrow.Author.Rules.{rules}
+use Rattle.ask.proofs.output.bytes.Goals as goal
+
+pub bounds-line-i : goal.bounds-line-i
+bounds-line-i c = omega (arith, ltb-true)
+
+pub bounds-line-i-in-loop-i : goal.bounds-line-i-in-loop-i
+bounds-line-i-in-loop-i c = omega (arith, ltb-true)
+
+pub loop-i-smaller : goal.loop-i-smaller
+loop-i-smaller c = omega (arith, ltb-true)
+
+pub loop-i-preserved : goal.loop-i-preserved
+loop-i-preserved c = simp length-set (omega (arith, ltb-true))
