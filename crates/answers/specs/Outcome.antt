@@ -15,7 +15,6 @@ use Rattle.meaning.specs.declared.Built.{Built}
 use Rattle.meaning.specs.declared.Built.TheVariants as built
 use Rattle.shapes.specs.Shapes.{pattern_of, table_of}
 use Rattle.shapes.specs.declared.Pattern.{Pattern}
-use Rattle.shapes.specs.declared.Table
 use Rattle.merging.specs.Merges.{IsMerge}
 use Rattle.offering.specs.declared.Marked.{Marked}
 use Rattle.building.specs.Counting.{build_from, build_from_lem}

@@ -28,7 +28,6 @@ use Rattle.meaning.specs.LineCalls.{number_from, name_number, is_known, known_dr
 use Rattle.meaning.specs.declared.Step.{Step}
 use Rattle.laws.specs.Bridge.{axis-read}
 use Rattle.turns.specs.declared.Mode.{Mode}
-use Rattle.turns.specs.declared.Mode.TheVariants as mode
 use Rattle.turns.specs.declared.Turn.{Turn}
 use Rattle.turns.specs.declared.Turn.TheVariants as turn
 use Rattle.turns.specs.declared.names.Name.{Name}

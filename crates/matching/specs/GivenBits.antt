@@ -1,6 +1,6 @@
 -- What a node gives by the masks is what it gives: the bits of the word that sixteen steps make, and the child steps of each.
 use Prim.Native.Nat.{ℕ, zero, suc, ◌+◌, ◌^◌, ◌≤◌, ◌<◌}
-use Rattle.std.specs.Prelude.{◌≡◌, refl, Bool, true, false, not, ◌&&◌, ◌||◌, List, eqb, ltb, length, drop}
+use Rattle.std.specs.Prelude.{◌≡◌, refl, Bool, true, false, ◌&&◌, ◌||◌, List, eqb, ltb, length, drop}
 use Rattle.std.proofs.Math.Path.{sym, ap}
 use Rattle.std.proofs.Common.{◌∙◌, arith, mod-eq_of_lt, add-one}
 use Rattle.std.proofs.Math.Bool.{or-false, or_assoc, and_comm}

@@ -1,5 +1,5 @@
 -- The masks of a pattern: what they say of its steps, and how they are made step by step.
-use Rattle.std.specs.Prelude.{ℕ, suc, ◌+◌, ◌^◌, ◌≤◌, ◌<◌, ◌≡◌, Bool, true, false, not, ◌&&◌, ◌||◌, List, eqb, ltb, length, get_or, set, replicate}
+use Rattle.std.specs.Prelude.{ℕ, suc, ◌+◌, ◌^◌, ◌≤◌, ◌<◌, ◌≡◌, Bool, true, false, ◌&&◌, ◌||◌, List, eqb, ltb, length, get_or, set, replicate}
 use Rattle.std.proofs.Math.Path.{refl}
 use Rattle.std.proofs.Common.{sym, ap, ◌∙◌, arith, add-one, eqb-true, ltb-true, ltb-false, lt-ltb, le-ltb, get_or-set_same, get_or-set_other}
 use Rattle.std.proofs.Math.Bool.{or-false}

@@ -1,5 +1,4 @@
 pub mod MemberTexts
 pub mod TableTexts
 pub mod Room
-pub mod Enough
 pub mod Printed

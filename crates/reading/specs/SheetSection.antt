@@ -10,7 +10,7 @@ use Rattle.base.specs.declared.Cur.TheVariants.{At, No}
 use Rattle.meaning.specs.Numbers.{ends_early, count_outside, most_steps, most_patterns}
 use Rattle.meaning.specs.Reader.{read, ◌>>=◌, ◌>>◌, give, unless, byte, repeat, end}
 use Rattle.meaning.specs.Forest.{Forest, forest}
-use Rattle.meaning.specs.Sections.{pattern, labels, Sheet, sheet}
+use Rattle.meaning.specs.Sections.{pattern, Sheet, sheet}
 use Rattle.meaning.specs.Calls.{sheet_number}
 use Rattle.labels.specs.LabelPlaces.{texts_at, labels_in}
 use Rattle.labels.specs.LabelSection.{labels_place, labels_section, length-texts}

@@ -1,7 +1,7 @@
 -- Whether anyone wants a document, with the tries until that was known; the answer of the hub's call is the same without the tries.
 use Rattle.std.specs.Prelude.{ℕ, ◌+◌, ◌≡◌, refl, not, List, eqb}
 use Rattle.std.proofs.Math.Path.{sym}
-use Rattle.std.proofs.Common.{ap, ◌∙◌}
+use Rattle.std.proofs.Common.{◌∙◌}
 use Rattle.base.specs.declared.Cur.TheVariants.{At, No}
 use Rattle.meaning.specs.Sections.{Sheet, Document, Entry}
 use Rattle.meaning.specs.Routing.{table_route, wanted, tried_until_wanted}

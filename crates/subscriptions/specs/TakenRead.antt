@@ -11,7 +11,7 @@ use Rattle.base.specs.declared.Cur.TheVariants.{At}
 use Rattle.meaning.specs.Numbers.{count_outside, most_steps, most_patterns}
 use Rattle.meaning.specs.Reader.{read}
 use Rattle.meaning.specs.Forest.{Forest, none, forest, steps_of}
-use Rattle.meaning.specs.Sections.{Sheet, sheet, pattern, steps}
+use Rattle.meaning.specs.Sections.{Sheet, sheet, pattern}
 use Rattle.shapes.specs.Shapes.{steps_in, pattern_of, WellFormed, no_steps}
 use Rattle.laws.specs.JudgingGives.{steps-written}
 use Rattle.reading.specs.SheetPlaces.{step_at_place, after_step, steps_at, forest_at, after_pattern, forests_at, pattern_count_at, sheet_at}

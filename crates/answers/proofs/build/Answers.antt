@@ -3,7 +3,6 @@ use mathlib.Core.Path.{sym, ◌∙◌}
 use Rattle.reading.specs.SheetJudged.{sheet-stands}
 use Rattle.answers.specs.Says.{build-said, build-refused}
 use Rattle.answers.specs.Outcome.{build-refuses, build-same}
-use borrow.Author.Rules.{rules}
 use Rattle.answers.proofs.build.Goals as goal
 
 pub build_first-requires : goal.build_first-requires

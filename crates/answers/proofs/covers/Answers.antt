@@ -2,7 +2,6 @@
 use mathlib.Core.Path.{sym, ◌∙◌}
 use Rattle.reading.specs.SheetJudged.{sheet-stands}
 use Rattle.answers.specs.Says.{covers-said, covers-refused}
-use borrow.Author.Rules.{rules}
 use Rattle.answers.proofs.covers.Goals as goal
 
 pub covers_numbered-requires : goal.covers_numbered-requires

@@ -3,7 +3,6 @@ use mathlib.Core.Path.{sym, ◌∙◌}
 use Rattle.reading.specs.SheetJudged.{sheet-stands}
 use Rattle.answers.specs.Says.{merge-said, merge-refused}
 use Rattle.answers.specs.Outcome.{merge-refuses, merge-same}
-use borrow.Author.Rules.{rules}
 use Rattle.answers.proofs.merge.Goals as goal
 
 pub merge_numbered-requires : goal.merge_numbered-requires

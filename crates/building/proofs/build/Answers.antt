@@ -1,12 +1,10 @@
 -- `build` meets its contract. The rounds made so far and what is left of the build give the whole; the measure is the steps that are left.
-use mathlib.Core.Path.{◌≡◌, ◌∙◌, ap}
+use mathlib.Core.Path.{◌∙◌, ap}
 use native.Mathlib.Omega.{arith}
-use borrow.Author.Rules.{rules}
-use Prim.Native.Nat.{◌≤◌}
 use Rattle.meaning.specs.Building.{steps_together}
 use Rattle.laws.specs.Rounds.{round-saves}
-use Rattle.shapes.specs.Shapes.{table_of, WellFormedTable}
-use Rattle.building.specs.Counting.{build_settled, build_from, InRounds, rounds-start, rounds-go_on, rounds-end}
+use Rattle.shapes.specs.Shapes.{table_of}
+use Rattle.building.specs.Counting.{build_settled, build_from, rounds-start, rounds-go_on, rounds-end}
 use Rattle.building.proofs.build.Goals as goal
 
 pub loop-left-init : goal.loop-left-init

@@ -1,12 +1,9 @@
 -- `build` meets its contract. The rounds made so far and what is left of the build give the whole; the measure is the steps that are left.
-use mathlib.Core.Path.{◌≡◌, ◌∙◌, ap}
-use native.Mathlib.Omega.{arith}
-use borrow.Author.Rules.{rules}
+use mathlib.Core.Path.{◌≡◌}
 use Prim.Native.Nat.{◌≤◌}
 use Rattle.meaning.specs.Building.{steps_together}
-use Rattle.laws.specs.Rounds.{round-saves}
 use Rattle.shapes.specs.Shapes.{table_of, WellFormedTable}
-use Rattle.building.specs.Counting.{build_settled, build_from, InRounds, rounds-start, rounds-go_on, rounds-end}
+use Rattle.building.specs.Counting.{InRounds}
 use Rattle.building.proofs.build.Given as goal
 
 abbrev pub invariant-loop-left : goal.invariant-loop-left

@@ -1,15 +1,12 @@
 -- The proof of the cycle of calls {all_lie, some_fits}. The measures fall with the steps of A that are left.
 use mathlib.Core.Path.{refl}
-use mathlib.Core.Logic.{inl, inr, ⊎_elim}
-use Prim.Native.Nat.{ℕ, ◌+◌, ◌*◌, ◌-◌, ◌<◌}
+use mathlib.Core.Logic.{inl, inr}
+use Prim.Native.Nat.{◌+◌}
 use native.Mathlib.Omega.{arith}
-use borrow.Author.Rules.{rules}
-use borrow.Author.Tests.{not-true, not-false}
-use Rattle.shapes.specs.Shapes.{steps_in}
 use Rattle.shapes.specs.Steps.{step_in, step-number}
-use Rattle.covering.specs.PairNotes.{Noted, PairOfSteps, known-lies, known_doesn't, children_decide}
-use Rattle.covering.specs.LayingLoops.{LayingChildren, laying_starts, child_lies, child_doesn't, no_child, all_lay}
-use Rattle.covering.specs.LayingLoops.{Fitting, next-parent_tells, search_starts, block_ends, place_fits_lem, place_doesn't, steps-done}
+use Rattle.covering.specs.PairNotes.{PairOfSteps, known-lies, known_doesn't, children_decide}
+use Rattle.covering.specs.LayingLoops.{laying_starts, child_lies, child_doesn't, no_child, all_lay}
+use Rattle.covering.specs.LayingLoops.{next-parent_tells, search_starts, block_ends, place_fits_lem, place_doesn't, steps-done}
 use Rattle.covering.proofs.+all_lie_some_fits.Goals as goal
 use Rattle.covering.proofs.+all_lie_some_fits.Goals.{some_fits-then-k-a, some_fits-else-k-a}
 

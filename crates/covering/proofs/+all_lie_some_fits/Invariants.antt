@@ -1,5 +1,5 @@
 -- The cycle of calls {all_lie, some_fits}: the measures fall with the steps of A that are left.
-use Rattle.std.proofs.Common.{◌-◌, ℕ, ◌+◌, ◌*◌}
+use Rattle.std.proofs.Common.{◌-◌, ◌+◌, ◌*◌}
 use Rattle.shapes.specs.Shapes.{steps_in}
 use Rattle.covering.specs.PairNotes.{Noted}
 use Rattle.covering.specs.LayingLoops.{LayingChildren, Fitting}

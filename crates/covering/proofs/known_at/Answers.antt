@@ -1,5 +1,4 @@
 -- `known_at` meets its contract: the pair's cell, or 2.
-use borrow.Author.Rules.{rules}
 use Rattle.base.specs.Choice.{picks}
 use Rattle.covering.specs.PairNotes.{known_at}
 use Rattle.covering.proofs.known_at.Goals as goal

@@ -3,7 +3,6 @@ use native.Mathlib.Omega.{arith}
 use Rattle.shapes.specs.Steps.{step_in}
 use Rattle.covering.specs.PairNotes.{known-lies, known_doesn't, children_decide}
 use Rattle.covering.specs.LayingLoops.{label_and_children}
-use borrow.Author.Rules.{rules}
 use Rattle.covering.proofs.lies_at.Goals as goal
 
 pub returns-then-known-eq1 : goal.returns-then-known-eq1

@@ -1,7 +1,6 @@
 -- `documents::document` meets its contract.
 use Rattle.base.specs.Loops.{and_then}
 use Rattle.base.specs.Choice.{picks}
-use borrow.Author.Rules.{rules}
 use Rattle.documents.specs.DocumentSection.{document_section, nodes_to_end}
 use Rattle.documents.proofs.document.Goals as goal
 

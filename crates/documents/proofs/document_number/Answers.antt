@@ -1,7 +1,6 @@
 -- `documents::document_number` meets its contract.
 use Rattle.places.specs.Bytes.{number_at}
 use mathlib.Core.Path.{sym, ◌∙◌, ap}
-use borrow.Author.Rules.{rules}
 use Rattle.documents.specs.DocumentJudged.{document_number_lem}
 use Rattle.documents.proofs.document_number.Goals as goal
 

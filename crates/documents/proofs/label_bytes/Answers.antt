@@ -1,7 +1,6 @@
 -- `documents::label_bytes` meets its contract.
 use native.Mathlib.Omega.{arith}
 use mathlib.Core.Path.{sym, ◌∙◌}
-use borrow.Author.Rules.{rules}
 use Rattle.documents.specs.LabelNumbers.{part_refused, part_zero, part_of_sheet, part_of_document, part_over}
 use Rattle.documents.proofs.label_bytes.Goals as goal
 

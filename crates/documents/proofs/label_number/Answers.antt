@@ -1,7 +1,6 @@
 -- `documents::label_number` meets its contract.
 use native.Mathlib.Omega.{arith}
 use mathlib.Core.Path.{sym, ◌∙◌}
-use borrow.Author.Rules.{rules}
 use Rattle.documents.specs.LabelNumbers.{number_there, number_zero, number_over, number-refused}
 use Rattle.documents.proofs.label_number.Goals as goal
 

@@ -1,6 +1,5 @@
 -- `documents::node` meets its contract.
 use Rattle.base.specs.Choice.{picks}
-use borrow.Author.Rules.{rules}
 use Rattle.documents.specs.DocumentSection.{node_section, node_label}
 use Rattle.documents.proofs.node.Goals as goal
 

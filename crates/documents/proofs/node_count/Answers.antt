@@ -1,5 +1,4 @@
 -- `documents::node_count` meets its contract.
-use borrow.Author.Rules.{rules}
 use Rattle.documents.specs.DocumentSection.{node_count_at}
 use Rattle.documents.proofs.node_count.Goals as goal
 

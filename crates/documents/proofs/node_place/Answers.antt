@@ -1,6 +1,5 @@
 -- `documents::node_place` meets its contract.
 use native.Mathlib.Omega.{arith}
-use borrow.Author.Rules.{rules}
 use Rattle.documents.specs.DocumentSection.{node_count_at}
 use Rattle.documents.proofs.node_place.Goals as goal
 

@@ -2,7 +2,6 @@
 use Prim.Native.Nat.{◌<◌}
 use Rattle.base.specs.Choice.{picks}
 use native.Mathlib.Omega.{arith}
-use borrow.Author.Rules.{rules}
 use Rattle.documents.specs.DocumentSection.{nodes_place}
 use Rattle.meaning.specs.Numbers.{most_nodes}
 use Rattle.documents.proofs.nodes.Goals as goal

@@ -1,9 +1,6 @@
 -- `documents::nodes_from` meets its contract.
 -- The invariant: i nodes are read, and the next one stands at x; the measure: what is left.
-use Prim.Native.Nat.{◌-◌}
-use Rattle.places.specs.ReadingLoop.{ReadSoFar, reading_starts, reads_on, reads-fault, all_read}
-use Rattle.documents.specs.DocumentSection.{node_place}
-use borrow.Author.Rules.{rules}
+use Rattle.places.specs.ReadingLoop.{reads_on, reads-fault, all_read}
 use native.Mathlib.Omega.{arith}
 use Rattle.documents.proofs.nodes_from.Goals as goal
 

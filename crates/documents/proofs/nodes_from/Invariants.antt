@@ -1,10 +1,8 @@
 -- `documents::nodes_from` meets its contract.
 -- The invariant: i nodes are read, and the next one stands at x; the measure: what is left.
 use Prim.Native.Nat.{◌-◌}
-use Rattle.places.specs.ReadingLoop.{ReadSoFar, reading_starts, reads_on, reads-fault, all_read}
+use Rattle.places.specs.ReadingLoop.{ReadSoFar}
 use Rattle.documents.specs.DocumentSection.{node_place}
-use borrow.Author.Rules.{rules}
-use native.Mathlib.Omega.{arith}
 use Rattle.documents.proofs.nodes_from.Given as goal
 
 abbrev pub invariant-loop-i : goal.invariant-loop-i

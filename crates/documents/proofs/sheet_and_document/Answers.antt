@@ -1,6 +1,5 @@
 -- `documents::sheet_and_document` meets its contract.
 use Rattle.base.specs.Loops.{and_then}
-use borrow.Author.Rules.{rules}
 use Rattle.documents.specs.DocumentJudged.{sheet_document_place}
 use Rattle.documents.proofs.sheet_and_document.Goals as goal
 

@@ -1,10 +1,7 @@
 -- `fairness::all_fit` meets its contract: what is left from entry j on gives what all entries give.
 use Prim.Native.Nat.{◌-◌}
-use native.Mathlib.Omega.{arith}
-use borrow.Author.Rules.{rules}
-use borrow.Author.Tests.{not-true, not-false}
 use Rattle.tables.specs.TableSection.{entries_lent}
-use Rattle.fairness.specs.Each.{FittingEntries, fitting_starts, entry-fits, entry_doesn't_fit, fitting-ends}
+use Rattle.fairness.specs.Each.{FittingEntries}
 use Rattle.fairness.proofs.all_fit.Given as goal
 
 abbrev pub invariant-loop-j : goal.invariant-loop-j

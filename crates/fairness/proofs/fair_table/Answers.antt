@@ -1,6 +1,5 @@
 -- `fairness::fair_table` meets its contract: the bytes of both first, 12 last.
 use mathlib.Core.Path.{refl, sym, ◌∙◌}
-use borrow.Author.Rules.{rules}
 use Rattle.fairness.specs.FairJudged.{sheet-table-stand, place-fair, place-not_fair, place-refused}
 use Rattle.fairness.proofs.fair_table.Goals as goal
 

@@ -1,6 +1,5 @@
 -- `fairness::is_fair` meets its contract: the entries first, then each subscription.
 use borrow.Author.Rules.{rules}
-use borrow.Author.Tests.{not-true, not-false}
 use Rattle.fairness.specs.FairJudged.{not_fit, all_fit}
 use Rattle.fairness.proofs.is_fair.Goals as goal
 

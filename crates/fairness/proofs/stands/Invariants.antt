@@ -1,10 +1,8 @@
 -- `fairness::stands` meets its contract: what is left from entry j on gives what all entries give.
 use Prim.Native.Nat.{◌-◌}
-use native.Mathlib.Omega.{arith}
 use Rattle.shapes.specs.Shapes.{pattern_of}
-use Rattle.meaning.specs.Building.{no_entry}
 use Rattle.tables.specs.TableSection.{entries_lent}
-use Rattle.fairness.specs.Weighing.{WeighingEntries, weighing_starts, weighing_goes_on, weighing_ends}
+use Rattle.fairness.specs.Weighing.{WeighingEntries}
 use Rattle.fairness.proofs.stands.Given as goal
 
 abbrev pub invariant-loop-j : goal.invariant-loop-j

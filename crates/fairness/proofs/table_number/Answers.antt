@@ -1,6 +1,5 @@
 -- `fairness::table_number` meets its contract: the number of the place that was reached.
 use mathlib.Core.Path.{sym, ap, ◌∙◌}
-use borrow.Author.Rules.{rules}
 use Rattle.places.specs.Bytes.{number_at}
 use Rattle.fairness.specs.FairJudged.{table_number_lem}
 use Rattle.fairness.proofs.table_number.Goals as goal

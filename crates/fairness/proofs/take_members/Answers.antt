@@ -1,10 +1,7 @@
 -- `fairness::take_members` meets its contract: the first entries' members are there, entry by entry.
-use Prim.Native.Nat.{◌-◌, ◌≤◌}
 use mathlib.Core.Path.{◌≡◌}
 use native.Mathlib.Omega.{arith}
-use borrow.Author.Rules.{rules}
-use Rattle.tables.specs.TableSection.{entries_lent}
-use Rattle.fairness.specs.EntryMembers.{FirstMembers, no_members, one_more}
+use Rattle.fairness.specs.EntryMembers.{no_members, one_more}
 use Rattle.fairness.proofs.take_members.Goals as goal
 
 pub loop-j-init : goal.loop-j-init

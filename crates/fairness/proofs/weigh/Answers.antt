@@ -1,7 +1,5 @@
 -- `fairness::weigh` meets its contract: one that has the subscription counts, another is passed over.
 use native.Mathlib.Omega.{arith}
-use borrow.Author.Rules.{rules}
-use borrow.Author.Tests.{not-true, not-false}
 use mathlib.Core.Bool.{true, false}
 use Rattle.base.specs.Choice.{pick}
 use Rattle.shapes.specs.Shapes.{entry_of, WellFormed}

@@ -1,6 +1,5 @@
 -- `hub::matches` meets its contract: what is said is what the answer says.
 use mathlib.Core.Path.{ap}
-use borrow.Author.Rules.{rules}
 use Rattle.meaning.specs.Given.{asked_given}
 use Rattle.hub.proofs.matches.Goals as goal
 

@@ -1,6 +1,5 @@
 -- `hub::merge` meets its contract: what is given and written is what the answer gives and writes.
 use mathlib.Core.Path.{ap}
-use borrow.Author.Rules.{rules}
 use Rattle.meaning.specs.Given.{merged_given}
 use Rattle.hub.proofs.merge.Goals as goal
 

@@ -1,6 +1,5 @@
 -- `hub::plain_route` meets its contract: what the route gives is what its answer gives.
 use mathlib.Core.Path.{ap}
-use borrow.Author.Rules.{rules}
 use Rattle.meaning.specs.Given.{routed_given}
 use Rattle.hub.proofs.plain_route.Goals as goal
 

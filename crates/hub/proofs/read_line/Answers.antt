@@ -1,6 +1,5 @@
 -- `hub::read_line` meets its contract: what is given and written is what the answer gives and writes.
 use mathlib.Core.Path.{ap}
-use borrow.Author.Rules.{rules}
 use Rattle.meaning.specs.Given.{lined_given}
 use Rattle.hub.proofs.read_line.Goals as goal
 

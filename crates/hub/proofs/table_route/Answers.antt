@@ -1,6 +1,5 @@
 -- `hub::table_route` meets its contract: what the route gives is what its answer gives.
 use mathlib.Core.Path.{ap}
-use borrow.Author.Rules.{rules}
 use Rattle.meaning.specs.Given.{tabled_given}
 use Rattle.hub.proofs.table_route.Goals as goal
 

@@ -1,6 +1,5 @@
 -- `hub::write_pattern` meets its contract: what is given and written is what the answer gives and writes.
 use mathlib.Core.Path.{ap}
-use borrow.Author.Rules.{rules}
 use Rattle.meaning.specs.Given.{output_given}
 use Rattle.hub.proofs.write_pattern.Goals as goal
 

@@ -1,5 +1,4 @@
 -- `hub_bench::bench_build` meets its contract: the number, the rounds and the length of the hub's answer, and what it writes.
-use borrow.Author.Rules.{rules}
 use Rattle.meaning.specs.Given.{refusal, gives, built_given}
 use Rattle.laws.specs.AnswerNumbers.{by_number_lem, build_told}
 use Rattle.hub_bench.proofs.bench_build.Goals as goal

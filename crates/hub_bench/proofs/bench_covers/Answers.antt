@@ -1,5 +1,4 @@
 -- `hub_bench::bench_covers` meets its contract: the number and the yes or no of the hub's answer.
-use borrow.Author.Rules.{rules}
 use Rattle.meaning.specs.Given.{refusal, gives, asked_given}
 use Rattle.laws.specs.AnswerNumbers.{by_number_lem, covers_told}
 use Rattle.hub_bench.proofs.bench_covers.Goals as goal

@@ -1,5 +1,4 @@
 -- `hub_bench::bench_merge` meets its contract: the number, the mark and the length of the hub's answer, and what it writes.
-use borrow.Author.Rules.{rules}
 use Rattle.meaning.specs.Given.{refusal, gives, merged_given}
 use Rattle.laws.specs.AnswerNumbers.{by_number_lem, merge_told}
 use Rattle.hub_bench.proofs.bench_merge.Goals as goal

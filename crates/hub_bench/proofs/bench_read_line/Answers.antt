@@ -1,5 +1,4 @@
 -- `hub_bench::bench_read_line` meets its contract: the number, the place and the length of the hub's answer, and what it writes.
-use borrow.Author.Rules.{rules}
 use Rattle.meaning.specs.Given.{refusal, gives, lined_given}
 use Rattle.laws.specs.AnswerNumbers.{by_number_lem, read_line_told}
 use Rattle.hub_bench.proofs.bench_read_line.Goals as goal

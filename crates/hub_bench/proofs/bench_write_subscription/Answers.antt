@@ -1,5 +1,4 @@
 -- `hub_bench::bench_write_subscription` meets its contract: the number and the length of the hub's answer, and what it writes.
-use borrow.Author.Rules.{rules}
 use Rattle.meaning.specs.Given.{refusal, gives, output_given}
 use Rattle.laws.specs.AnswerNumbers.{by_number_lem, write_subscription_told}
 use Rattle.hub_bench.proofs.bench_write_subscription.Goals as goal

@@ -1,5 +1,4 @@
 -- `hub_c::hub_plain_route` meets its contract: the number and the set of the hub's answer; where it is refused the number is not 0.
-use borrow.Author.Rules.{rules}
 use Rattle.meaning.specs.Given.{refusal, gives, routed_given}
 use Rattle.laws.specs.AnswerNumbers.{by_number_lem, plain_route_told}
 use Rattle.hub_c.proofs.hub_plain_route.Goals as goal

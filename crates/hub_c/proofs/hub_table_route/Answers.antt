@@ -1,5 +1,4 @@
 -- `hub_c::hub_table_route` meets its contract: the number, the set and the tries of the hub's answer; where it is refused the number is not 0.
-use borrow.Author.Rules.{rules}
 use Rattle.meaning.specs.Given.{refusal, gives, tabled_given}
 use Rattle.laws.specs.AnswerNumbers.{by_number_lem, table_route_told}
 use Rattle.hub_c.proofs.hub_table_route.Goals as goal

@@ -1,5 +1,4 @@
 -- `hub_c::hub_wanted` meets its contract: the number of the hub's answer, and yes or no; where it is refused the number is not 0.
-use borrow.Author.Rules.{rules}
 use Rattle.meaning.specs.Given.{refusal, gives, asked_given}
 use Rattle.laws.specs.AnswerNumbers.{by_number_lem, wanted_told}
 use Rattle.hub_c.proofs.hub_wanted.Goals as goal

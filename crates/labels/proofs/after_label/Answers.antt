@@ -2,7 +2,6 @@
 use native.Mathlib.Omega.{arith}
 use Rattle.base.specs.Choice.{picks}
 use Rattle.labels.specs.LabelPlaces.{after_label}
-use borrow.Author.Rules.{rules}
 use Rattle.labels.proofs.after_label.Goals as goal
 
 pub returns-then-p-s : goal.returns-then-p-s

@@ -2,11 +2,8 @@
 -- The invariant: what is left from here gives what all gives from the start; the measure: what is left.
 use mathlib.Core.Path.{◌≡◌}
 use Prim.Native.Nat.{◌+◌, ◌*◌, ◌-◌, ◌≤◌}
-use Rattle.base.specs.Standing.{place_after, place-goes_on, place-ends}
+use Rattle.base.specs.Standing.{place_after}
 use Rattle.labels.specs.LabelPlaces.{after_label}
-use borrow.Author.Rules.{rules}
-use native.Mathlib.Nat.{sub-zero}
-use native.Mathlib.Omega.{arith}
 use Rattle.labels.proofs.after_labels.Given as goal
 
 abbrev pub invariant-loop-i : goal.invariant-loop-i

@@ -4,7 +4,6 @@ use Rattle.base.specs.Choice.{picks}
 use Rattle.labels.specs.LabelPlaces.{text_at}
 use Rattle.labels.specs.LabelSection.{label_section}
 use native.Mathlib.Omega.{arith}
-use borrow.Author.Rules.{rules}
 use Rattle.meaning.specs.Numbers.{longest_label}
 use Rattle.labels.proofs.label.Goals as goal
 

@@ -1,7 +1,6 @@
 -- `labels::label_at` meets its contract. No label, or the bytes at the label's place.
 use mathlib.Core.Path.{ap, ◌∙◌}
 use native.Mathlib.Omega.{arith}
-use borrow.Author.Rules.{rules}
 use Rattle.labels.specs.LabelPlaces.{text_at}
 use Rattle.labels.specs.LabelLoops.{label_zero, label_over, label_there}
 use Rattle.labels.proofs.label_at.Goals as goal

@@ -1,9 +1,7 @@
 -- `labels::labels` meets its contract.
 -- The invariant: i labels are read, and the next one stands at x; the measure: what is left.
-use Prim.Native.Nat.{◌-◌}
-use Rattle.places.specs.ReadingLoop.{ReadSoFar, reading_starts, reads_on, reads-fault, all_read}
-use Rattle.labels.specs.LabelSection.{label_place, labels_section}
-use borrow.Author.Rules.{rules}
+use Rattle.places.specs.ReadingLoop.{reads_on, reads-fault, all_read}
+use Rattle.labels.specs.LabelSection.{labels_section}
 use native.Mathlib.Omega.{arith}
 use Rattle.labels.proofs.labels.Goals as goal
 

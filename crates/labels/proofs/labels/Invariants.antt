@@ -1,10 +1,8 @@
 -- `labels::labels` meets its contract.
 -- The invariant: i labels are read, and the next one stands at x; the measure: what is left.
 use Prim.Native.Nat.{◌-◌}
-use Rattle.places.specs.ReadingLoop.{ReadSoFar, reading_starts, reads_on, reads-fault, all_read}
-use Rattle.labels.specs.LabelSection.{label_place, labels_section}
-use borrow.Author.Rules.{rules}
-use native.Mathlib.Omega.{arith}
+use Rattle.places.specs.ReadingLoop.{ReadSoFar}
+use Rattle.labels.specs.LabelSection.{label_place}
 use Rattle.labels.proofs.labels.Given as goal
 
 abbrev pub invariant-loop-i : goal.invariant-loop-i

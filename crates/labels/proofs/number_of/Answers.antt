@@ -1,12 +1,7 @@
 -- `labels::number_of` meets its contract.
 -- The invariant: what is left from here gives what all gives from the start; the measure: what is left.
-use mathlib.Core.Path.{◌≡◌}
-use Prim.Native.Nat.{◌+◌, ◌-◌}
-use Rattle.base.specs.Standing.{standing}
-use Rattle.meaning.specs.LineCalls.{number_from}
-use Rattle.labels.specs.LabelPlaces.{text_at, after_label, texts_at, labels_in}
+use Rattle.labels.specs.LabelPlaces.{texts_at, labels_in}
 use Rattle.labels.specs.LabelNumbered.{number-hits, number-goes_on, number-ends}
-use borrow.Author.Rules.{rules}
 use native.Mathlib.Nat.{sub-zero}
 use native.Mathlib.Omega.{arith}
 use Rattle.labels.proofs.number_of.Goals as goal

@@ -4,11 +4,7 @@ use mathlib.Core.Path.{◌≡◌}
 use Prim.Native.Nat.{◌+◌, ◌-◌}
 use Rattle.base.specs.Standing.{standing}
 use Rattle.meaning.specs.LineCalls.{number_from}
-use Rattle.labels.specs.LabelPlaces.{text_at, after_label, texts_at, labels_in}
-use Rattle.labels.specs.LabelNumbered.{number-hits, number-goes_on, number-ends}
-use borrow.Author.Rules.{rules}
-use native.Mathlib.Nat.{sub-zero}
-use native.Mathlib.Omega.{arith}
+use Rattle.labels.specs.LabelPlaces.{text_at, after_label, labels_in}
 use Rattle.labels.proofs.number_of.Given as goal
 
 abbrev pub invariant-loop-i : goal.invariant-loop-i

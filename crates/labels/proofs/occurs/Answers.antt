@@ -1,12 +1,7 @@
 -- `labels::occurs` meets its contract.
 -- The invariant: what is left from here gives what all gives from the start; the measure: what is left.
-use mathlib.Core.Path.{◌≡◌}
-use Prim.Native.Nat.{◌-◌}
-use Rattle.base.specs.Standing.{standing, some-hits, some-goes_on, some-ends}
-use Rattle.meaning.specs.Sections.{same_label}
-use Rattle.base.specs.Lists.{some}
-use Rattle.labels.specs.LabelPlaces.{text_at, after_label, texts_at}
-use borrow.Author.Rules.{rules}
+use Rattle.base.specs.Standing.{some-hits, some-goes_on, some-ends}
+use Rattle.labels.specs.LabelPlaces.{texts_at}
 use native.Mathlib.Nat.{sub-zero}
 use native.Mathlib.Omega.{arith}
 use Rattle.labels.proofs.occurs.Goals as goal

@@ -2,13 +2,10 @@
 -- The invariant: what is left from here gives what all gives from the start; the measure: what is left.
 use mathlib.Core.Path.{◌≡◌}
 use Prim.Native.Nat.{◌-◌}
-use Rattle.base.specs.Standing.{standing, some-hits, some-goes_on, some-ends}
+use Rattle.base.specs.Standing.{standing}
 use Rattle.meaning.specs.Sections.{same_label}
 use Rattle.base.specs.Lists.{some}
-use Rattle.labels.specs.LabelPlaces.{text_at, after_label, texts_at}
-use borrow.Author.Rules.{rules}
-use native.Mathlib.Nat.{sub-zero}
-use native.Mathlib.Omega.{arith}
+use Rattle.labels.specs.LabelPlaces.{text_at, after_label}
 use Rattle.labels.proofs.occurs.Given as goal
 
 abbrev pub invariant-loop-i : goal.invariant-loop-i

@@ -1,10 +1,8 @@
 -- `labels::same_label` meets its contract.
 -- The invariant: the bytes that are left decide; the measure: how many are left.
-use mathlib.Core.Path.{refl}
 use lib.ListN.{length}
 use Prim.Native.Nat.{◌-◌}
-use Rattle.labels.specs.LabelLoops.{unequal_lengths, SameSoFar, bytes_differ, bytes_agree, bytes-end}
-use native.Mathlib.Omega.{arith}
+use Rattle.labels.specs.LabelLoops.{SameSoFar}
 use Rattle.labels.proofs.same_label.Given as goal
 
 abbrev pub invariant-loop-i : goal.invariant-loop-i

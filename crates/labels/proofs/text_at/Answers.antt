@@ -1,7 +1,6 @@
 -- `labels::text_at` meets its contract.
 use native.Mathlib.Omega.{arith}
 use Rattle.labels.specs.LabelLoops.{text_none, text-short, text-whole}
-use borrow.Author.Rules.{rules}
 use Rattle.labels.proofs.text_at.Goals as goal
 
 pub returns-then-s-p : goal.returns-then-s-p

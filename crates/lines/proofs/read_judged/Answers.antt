@@ -1,5 +1,4 @@
 -- `lines::read_judged` meets its contract: where the line is off, the output is as found.
-use borrow.Author.Rules.{rules}
 use borrow.Author.Tests.{not-true, not-false}
 use Rattle.reading.specs.SheetPlaces.{sheet_at}
 use Rattle.lines.specs.Said.{line_off, line_formed, line-drawn}

@@ -1,6 +1,5 @@
 -- `lines::read_line` meets its contract: the sheet is judged first, and a refusal leaves the output as found.
 use mathlib.Core.Path.{sym, ◌∙◌}
-use borrow.Author.Rules.{rules}
 use Rattle.reading.specs.SheetJudged.{sheet-stands}
 use Rattle.lines.specs.Said.{line-said, line_refused}
 use Rattle.lines.proofs.read_line.Goals as goal

@@ -1,8 +1,7 @@
 -- `matching::fill` meets its contract: what is left, when the nodes above u have had their turns, gives what all give; u falls by one.
-use Prim.Native.Nat.{◌+◌, ◌*◌, ◌-◌, ◌≤◌}
+use Prim.Native.Nat.{◌+◌, ◌*◌, ◌-◌}
 use mathlib.Core.Path.{◌≡◌, refl}
 use native.Mathlib.Omega.{arith}
-use lib.ListN.{length}
 use Rattle.matching.specs.Document.{filled, filled-goes_on, parent_lower}
 use Rattle.matching.specs.NodeTurns.{masks_lent, length-kept}
 use Rattle.matching.proofs.fill.Goals as goal

@@ -1,10 +1,9 @@
 -- `matching::fill` meets its contract: what is left, when the nodes above u have had their turns, gives what all give; u falls by one.
-use Prim.Native.Nat.{◌+◌, ◌*◌, ◌-◌, ◌≤◌}
-use mathlib.Core.Path.{◌≡◌, refl}
-use native.Mathlib.Omega.{arith}
+use Prim.Native.Nat.{◌≤◌}
+use mathlib.Core.Path.{◌≡◌}
 use lib.ListN.{length}
-use Rattle.matching.specs.Document.{filled, filled-goes_on, parent_lower}
-use Rattle.matching.specs.NodeTurns.{masks_lent, length-kept}
+use Rattle.matching.specs.Document.{filled}
+use Rattle.matching.specs.NodeTurns.{masks_lent}
 use Rattle.matching.proofs.fill.Given as goal
 
 abbrev pub invariant-loop-u : goal.invariant-loop-u

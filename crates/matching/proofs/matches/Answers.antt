@@ -1,7 +1,6 @@
 -- `matching::matches` meets its contract: the top's word has all root steps exactly if the document satisfies the pattern.
 use mathlib.Core.Path.{◌∙◌}
 use native.Mathlib.Omega.{arith}
-use borrow.Author.Rules.{rules}
 use Rattle.laws.specs.ReadNumbers.{Bytes}
 use Rattle.matching.specs.Document.{top_word_tells}
 use Rattle.matching.proofs.matches.Goals as goal

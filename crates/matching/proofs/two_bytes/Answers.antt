@@ -1,7 +1,6 @@
 -- `matching::two_bytes` meets its contract: a byte is below 256, so nothing wraps.
 use Prim.Native.Nat.{◌+◌}
 use native.Mathlib.Omega.{arith}
-use borrow.Author.Rules.{rules}
 use Rattle.matching.proofs.two_bytes.Goals as goal
 
 pub overflow_cast-result : goal.overflow_cast-result

@@ -1,7 +1,6 @@
 -- `matching::word_at_top` meets its contract: whichever words are filled, there are more than nodes.
 use native.Mathlib.Omega.{arith}
 use mathlib.Core.Path.{ap}
-use borrow.Author.Rules.{rules}
 use lib.ListN.{get_or}
 use Rattle.matching.proofs.word_at_top.Goals as goal
 

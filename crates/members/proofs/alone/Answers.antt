@@ -1,7 +1,6 @@
 -- `members::alone` meets its contract: one bit, which no shift by less than 64 loses.
 use mathlib.Core.Path.{◌∙◌}
 use native.Mathlib.Omega.{arith}
-use borrow.Author.Rules.{rules}
 use lib.Pow.{shl_exact}
 use Rattle.members.proofs.alone.Goals as goal
 

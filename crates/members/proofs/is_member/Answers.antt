@@ -1,6 +1,5 @@
 -- `members::is_member` meets its contract: the bit of subscription i.
 use mathlib.Core.Path.{refl}
-use borrow.Author.Rules.{rules}
 use Rattle.meaning.specs.Fair.{is_member}
 use Rattle.members.proofs.is_member.Goals as goal
 

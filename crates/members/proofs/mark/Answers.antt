@@ -1,6 +1,5 @@
 -- `members::mark` meets its contract: with subscription i alone, or as it was.
 use mathlib.Core.Path.{refl, ap, ◌∙◌}
-use borrow.Author.Rules.{rules}
 use lib.Bits.{bit_or}
 use Rattle.base.specs.Choice.{pick_true, pick_false}
 use Rattle.laws.specs.Marks.{marked}

@@ -1,6 +1,5 @@
 -- `members::members_fit` meets its contract: some bit, and none from n on.
 use native.Mathlib.Omega.{arith}
-use borrow.Author.Rules.{rules}
 use Rattle.members.specs.Fitting.{fit_none, fit_all, fit_below}
 use Rattle.members.proofs.members_fit.Goals as goal
 

@@ -1,12 +1,10 @@
 -- `members::put_members` meets its contract. In turn k the bytes from the k-th on are left to store.
-use Prim.Native.Nat.{◌+◌, ◌-◌, ◌%◌, ◌≤◌}
+use Prim.Native.Nat.{◌%◌}
 use native.Mathlib.Omega.{arith}
-use borrow.Author.Rules.{rules}
 use mathlib.Core.Path.{refl, ◌∙◌}
 use mathlib.Core.List.{[], ◌∷◌}
-use lib.Seq.{sets, length-sets}
-use Rattle.base.specs.Storing.{LeftToStore, left-first, left-goes_on, left_none, left-same}
-use Rattle.meaning.specs.Written.{number_bytes}
+use lib.Seq.{length-sets}
+use Rattle.base.specs.Storing.{left-first, left-goes_on, left_none, left-same}
 use Rattle.members.specs.MemberBytes.{length-number_bytes, number-goes_on, number-end}
 use Rattle.members.proofs.put_members.Goals as goal
 

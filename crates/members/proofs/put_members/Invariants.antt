@@ -1,13 +1,8 @@
 -- `members::put_members` meets its contract. In turn k the bytes from the k-th on are left to store.
-use Prim.Native.Nat.{◌+◌, ◌-◌, ◌%◌, ◌≤◌}
-use native.Mathlib.Omega.{arith}
-use borrow.Author.Rules.{rules}
-use mathlib.Core.Path.{refl, ◌∙◌}
-use mathlib.Core.List.{[], ◌∷◌}
-use lib.Seq.{sets, length-sets}
-use Rattle.base.specs.Storing.{LeftToStore, left-first, left-goes_on, left_none, left-same}
+use Prim.Native.Nat.{◌+◌, ◌-◌, ◌≤◌}
+use lib.Seq.{sets}
+use Rattle.base.specs.Storing.{LeftToStore}
 use Rattle.meaning.specs.Written.{number_bytes}
-use Rattle.members.specs.MemberBytes.{length-number_bytes, number-goes_on, number-end}
 use Rattle.members.proofs.put_members.Given as goal
 
 abbrev pub invariant-loop-k : goal.invariant-loop-k

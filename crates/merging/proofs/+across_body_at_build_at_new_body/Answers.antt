@@ -1,22 +1,17 @@
 -- The proof of the cycle of calls {across, body_at, build_at, new_body}. The measures fall with the steps of p that are left.
-use Prim.Native.Nat.{ℕ, ◌+◌, ◌*◌, ◌-◌, ◌<◌}
+use Prim.Native.Nat.{◌<◌}
 use mathlib.Core.Path.{◌∙◌, subst}
-use mathlib.Core.Bool.{true}
 use native.Mathlib.Omega.{arith}
-use borrow.Author.Rules.{rules}
-use Rattle.meaning.specs.Merging.{nothing, common_label, through}
-use Rattle.laws.specs.Children.{children_of}
-use Rattle.shapes.specs.Shapes.{no_steps-stand, steps_in}
+use Rattle.meaning.specs.Merging.{common_label}
+use Rattle.shapes.specs.Shapes.{no_steps-stand}
 use Rattle.shapes.specs.Steps.{step_in, step-number}
 use Rattle.covering.specs.PairNotes.{PairOfSteps, cell_of}
-use Rattle.offering.specs.Offers.{building_of, IsBody}
+use Rattle.offering.specs.Offers.{IsBody}
 use Rattle.offering.specs.Candidates.{body_of-itself}
 use Rattle.packing.specs.Packing.{unpacked, kept-body}
-use Rattle.merging.specs.PairWalk.{meet_all}
-use Rattle.merging.specs.Bodies.{takes_first, takes-second, makes, Known, body-found, body_kept}
-use Rattle.merging.specs.Walks.{pair_of, across_of, across_starts, across-step, through_starts, through-step}
-use Rattle.merging.specs.Walks.{Walking, walks_on, walks_out, walks_through}
-use Rattle.meaning.specs.Numbers.{most_steps}
+use Rattle.merging.specs.Bodies.{takes_first, takes-second, makes, body-found, body_kept}
+use Rattle.merging.specs.Walks.{across_starts, across-step, through_starts, through-step}
+use Rattle.merging.specs.Walks.{walks_on, walks_out, walks_through}
 use Rattle.merging.proofs.+across_body_at_build_at_new_body.Goals as goal
 
 pub across-loop-u-init : goal.across-loop-u-init

@@ -1,5 +1,5 @@
 -- The cycle of calls {across, body_at, build_at, new_body}: the measures fall with the steps of p that are left.
-use Rattle.std.proofs.Common.{ℕ, true, ◌+◌, ◌*◌, ◌-◌}
+use Rattle.std.proofs.Common.{true, ◌+◌, ◌*◌, ◌-◌}
 use Rattle.meaning.specs.Numbers.{most_steps}
 use Rattle.meaning.specs.Merging.{nothing, through}
 use Rattle.laws.specs.Children.{children_of}

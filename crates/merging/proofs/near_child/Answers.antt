@@ -1,6 +1,5 @@
 -- `merging::near_child` meets its contract: both tests.
 use Rattle.merging.specs.PairWalk.{near_if, near_not}
-use borrow.Author.Rules.{rules}
 use Rattle.merging.proofs.near_child.Goals as goal
 
 pub returns-then-s-w : goal.returns-then-s-w

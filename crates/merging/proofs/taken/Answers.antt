@@ -2,7 +2,6 @@
 use mathlib.Core.Path.{refl}
 use Rattle.meaning.specs.Forest.{axis_of}
 use Rattle.merging.specs.Bodies.{body_at}
-use borrow.Author.Rules.{rules}
 use Rattle.merging.proofs.taken.Goals as goal
 
 pub returns : goal.returns

@@ -2,7 +2,6 @@
 use native.Mathlib.Omega.{arith}
 use Rattle.shapes.specs.Steps.{step_in, step-number}
 use Rattle.offering.specs.Copying.{one_branch}
-use borrow.Author.Rules.{rules}
 use Rattle.offering.proofs.branch.Goals as goal
 
 pub returns : goal.returns

@@ -1,14 +1,8 @@
 -- `offering::copied` meets its contract: after each turn the steps stand there that were passed, and the block is what `children_of` reads.
-use Prim.Native.Nat.{suc, ◌-◌}
 use mathlib.Core.Path.{refl}
-use mathlib.Core.List.{◌++◌}
 use native.Mathlib.Omega.{arith}
-use borrow.Author.Rules.{rules}
-use Rattle.meaning.specs.Forest.{steps_from}
-use Rattle.shapes.specs.Shapes.{steps_in}
 use Rattle.shapes.specs.Steps.{step_in, parent-low}
-use Rattle.laws.specs.Children.{children_of}
-use Rattle.offering.specs.CopyingLoop.{Copying, copy_starts, copy_step_lem, copy_ends, copy_done}
+use Rattle.offering.specs.CopyingLoop.{copy_starts, copy_step_lem, copy_ends, copy_done}
 use Rattle.offering.proofs.copied.Goals as goal
 
 pub loop-k-init : goal.loop-k-init

@@ -4,7 +4,6 @@ use native.Mathlib.Omega.{arith}
 use Rattle.meaning.specs.Forest.{axis_of}
 use Rattle.shapes.specs.Steps.{root-children}
 use Rattle.offering.specs.Copying.{one_branch}
-use borrow.Author.Rules.{rules}
 use Rattle.offering.proofs.made.Goals as goal
 
 pub returns : goal.returns

@@ -2,7 +2,6 @@
 use borrow.Author.Tests.{eq-eqb, ne_eqb}
 use Rattle.base.specs.Choice.{pick}
 use Rattle.offering.specs.Copying.{moved_step}
-use borrow.Author.Rules.{rules}
 use Rattle.offering.proofs.moved.Goals as goal
 
 pub returns-then-parent-v : goal.returns-then-parent-v

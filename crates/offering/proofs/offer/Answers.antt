@@ -2,7 +2,6 @@
 use native.Mathlib.Omega.{arith}
 use Rattle.offering.specs.Branches.{copied-beside}
 use Rattle.offering.specs.Offers.{IsBranch, skips_it, puts_it, leaves_it}
-use borrow.Author.Rules.{rules}
 use Rattle.offering.proofs.offer.Goals as goal
 
 pub covers-requires : goal.covers-requires

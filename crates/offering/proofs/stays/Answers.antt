@@ -1,11 +1,9 @@
 -- `offering::stays` meets its contract: after each turn the branches are left that were passed and stay.
-use Prim.Native.Nat.{◌-◌}
 use native.Mathlib.Omega.{arith}
-use borrow.Author.Tests.{not-true, not-false}
-use Rattle.shapes.specs.Shapes.{no_steps-stand, pattern_of, WellFormed}
+use Rattle.shapes.specs.Shapes.{no_steps-stand}
 use Rattle.shapes.specs.Steps.{step_in}
 use Rattle.offering.specs.Branches.{copied-beside}
-use Rattle.offering.specs.Staying.{branch_at, LeftToAsk, left_starts, next-turn, branch_fits, left-goes, left-remains, left-done}
+use Rattle.offering.specs.Staying.{branch_at, left_starts, next-turn, branch_fits, left-goes, left-remains, left-done}
 use Rattle.offering.proofs.stays.Goals as goal
 
 pub loop-k-init : goal.loop-k-init

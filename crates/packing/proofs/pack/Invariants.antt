@@ -1,13 +1,8 @@
 -- `packing::pack` meets its contract: after each turn the bytes of the steps that were passed are written.
 use Prim.Native.Nat.{◌-◌, ◌≤◌}
-use mathlib.Core.Path.{◌≡◌, refl}
-use native.Mathlib.Omega.{arith}
 use lib.Dec.{eqb}
-use lib.ListN.{replicate}
-use borrow.Author.Rules.{rules}
 use Rattle.shapes.specs.Shapes.{WellFormed}
-use Rattle.shapes.specs.Steps.{step_in}
-use Rattle.packing.specs.Packing.{WrittenSteps, step_set, written_starts, written_step, body_length}
+use Rattle.packing.specs.Packing.{WrittenSteps}
 use Rattle.packing.proofs.pack.Given as goal
 
 abbrev pub invariant-loop-k : goal.invariant-loop-k

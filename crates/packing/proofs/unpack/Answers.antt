@@ -1,10 +1,8 @@
 -- `packing::unpack` meets its contract: after each turn the steps that were passed are held.
-use Prim.Native.Nat.{◌-◌}
 use mathlib.Core.Path.{refl}
 use native.Mathlib.Omega.{arith}
-use borrow.Author.Rules.{rules}
 use Rattle.shapes.specs.Shapes.{no_steps-stand}
-use Rattle.packing.specs.Packing.{step_of, Unpacking, unpack_starts, unpack-step, unpack-done}
+use Rattle.packing.specs.Packing.{step_of, unpack_starts, unpack-step, unpack-done}
 use Rattle.packing.proofs.unpack.Goals as goal
 
 pub loop-k-init : goal.loop-k-init

@@ -1,7 +1,6 @@
 -- `places::byte_at` meets its contract.
 use mathlib.Core.Path.{refl, sym}
 use native.Mathlib.Omega.{arith}
-use borrow.Author.Rules.{rules}
 use lib.ListN.{get_or-eq_default}
 use Rattle.places.proofs.byte_at.Goals as goal
 

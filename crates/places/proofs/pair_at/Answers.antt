@@ -2,7 +2,6 @@
 use Rattle.places.specs.NumberRead.{pair-past}
 use Rattle.places.specs.Bytes.{pair_at}
 use native.Mathlib.Omega.{arith}
-use borrow.Author.Rules.{rules}
 use Rattle.places.proofs.pair_at.Goals as goal
 
 pub returns-then-s-x : goal.returns-then-s-x

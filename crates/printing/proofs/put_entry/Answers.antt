@@ -3,7 +3,6 @@ use Rattle.texts.specs.PutText.{put_then}
 use Rattle.meaning.specs.PatternText.{ascii}
 use Rattle.meaning.specs.Printing.{entry_text}
 use Rattle.shapes.specs.Shapes.{entry_of}
-use borrow.Author.Rules.{rules}
 use Rattle.printing.proofs.put_entry.Goals as goal
 
 pub returns : goal.returns

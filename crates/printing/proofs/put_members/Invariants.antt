@@ -1,11 +1,8 @@
 -- `printing::put_members` meets its contract. The loop: the members still to come, put from here, give what all give.
 use Prim.Native.Nat.{◌-◌}
-use mathlib.Core.Path.{refl}
 use mathlib.Core.Bool.{false}
-use native.Mathlib.Omega.{arith}
-use borrow.Author.Rules.{rules}
-use Rattle.texts.specs.PutText.{LeftToPut, left-first, left-goes_on, left-stays, left_none, left-same, put_is}
-use Rattle.printing.specs.MemberTexts.{numbers_text, members_from, members-text, member_here, member_not, members-end}
+use Rattle.texts.specs.PutText.{LeftToPut}
+use Rattle.printing.specs.MemberTexts.{numbers_text, members_from}
 use Rattle.printing.proofs.put_members.Given as goal
 
 abbrev pub invariant-loop-i : goal.invariant-loop-i

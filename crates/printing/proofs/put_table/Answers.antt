@@ -1,12 +1,10 @@
 -- `printing::put_table` meets its contract. The totals; then the loop: what is left of the entries, put from here, gives what
 -- all of them give.
-use Prim.Native.Nat.{◌-◌}
 use mathlib.Core.Path.{◌∙◌}
 use native.Mathlib.Omega.{arith}
 use Rattle.shapes.specs.TableValues.{entry-sound}
-use Rattle.texts.specs.PutText.{LeftToPut, left-first, left-goes_on, left_none, left-same, put_then, put_is, same-room}
-use Rattle.labels.specs.LabelPlaces.{labels_in}
-use Rattle.printing.specs.TableTexts.{entries_text, entry_here, entries-end, table_text_lem}
+use Rattle.texts.specs.PutText.{left-goes_on, left_none, left-same, put_then, put_is, same-room}
+use Rattle.printing.specs.TableTexts.{entry_here, entries-end, table_text_lem}
 use Rattle.printing.proofs.put_table.Goals as goal
 
 pub put_entry-next-requires : goal.put_entry-next-requires

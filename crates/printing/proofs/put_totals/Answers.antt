@@ -2,7 +2,6 @@
 use Rattle.texts.specs.PutText.{put_then}
 use Rattle.meaning.specs.PatternText.{ascii}
 use Rattle.printing.specs.TableTexts.{totals_of}
-use borrow.Author.Rules.{rules}
 use Rattle.printing.proofs.put_totals.Goals as goal
 
 pub returns : goal.returns

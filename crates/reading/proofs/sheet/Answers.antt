@@ -1,7 +1,6 @@
 -- `reading::sheet` meets its contract.
 use Rattle.base.specs.Choice.{picks}
 use Rattle.base.specs.Loops.{and_then}
-use borrow.Author.Rules.{rules}
 use Rattle.reading.specs.SheetSection.{sheet_section, patterns_to_end}
 use Rattle.reading.proofs.sheet.Goals as goal
 

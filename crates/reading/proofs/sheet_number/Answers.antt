@@ -1,7 +1,6 @@
 -- `reading::sheet_number` meets its contract.
 use mathlib.Core.Path.{sym, ◌∙◌, ap}
 use Rattle.places.specs.Bytes.{number_at}
-use borrow.Author.Rules.{rules}
 use Rattle.reading.specs.SheetSection.{sheet_number_lem}
 use Rattle.reading.proofs.sheet_number.Goals as goal
 

@@ -1,5 +1,4 @@
 -- `routing::ask` meets its contract: the pattern at its place is asked.
-use borrow.Author.Rules.{rules}
 use Rattle.routing.proofs.ask.Goals as goal
 
 pub matches-requires : goal.matches-requires

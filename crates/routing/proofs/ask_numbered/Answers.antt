@@ -2,7 +2,6 @@
 use native.Mathlib.Omega.{arith}
 use Rattle.subscriptions.specs.Subscribed.{subscriptions_stand}
 use Rattle.routing.specs.Plain.{answer_there, answer-not_there}
-use borrow.Author.Rules.{rules}
 use Rattle.routing.proofs.ask_numbered.Goals as goal
 
 pub offset_bounds-subscriptions-i : goal.offset_bounds-subscriptions-i

@@ -1,10 +1,7 @@
 -- `routing::deliver` meets its contract: the set is that of the first i subscriptions.
-use Prim.Native.Nat.{◌-◌}
 use native.Mathlib.Omega.{arith}
-use borrow.Author.Rules.{rules}
-use Rattle.shapes.specs.Shapes.{nodes_at}
 use Rattle.subscriptions.specs.Subscribed.{subscriptions_stand}
-use Rattle.routing.specs.Plain.{Delivering, delivery_starts, delivery_goes_on, delivery_ends}
+use Rattle.routing.specs.Plain.{delivery_starts, delivery_goes_on, delivery_ends}
 use Rattle.routing.proofs.deliver.Goals as goal
 
 pub loop-i-init : goal.loop-i-init

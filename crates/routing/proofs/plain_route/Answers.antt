@@ -1,6 +1,5 @@
 -- `routing::plain_route` meets its contract: by the places that were reached.
 use mathlib.Core.Path.{sym, ◌∙◌}
-use borrow.Author.Rules.{rules}
 use Rattle.documents.specs.DocumentJudged.{sheet-document-stand}
 use Rattle.routing.specs.RouteAnswers.{plain-refused, plain-delivered}
 use Rattle.routing.proofs.plain_route.Goals as goal

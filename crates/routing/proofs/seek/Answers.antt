@@ -1,6 +1,5 @@
 -- `routing::seek` meets its contract: by the place that was reached.
 use mathlib.Core.Path.{sym, ◌∙◌}
-use borrow.Author.Rules.{rules}
 use Rattle.routing.specs.ThreeJudged.{three_stand}
 use Rattle.routing.specs.Sought.{sought_refused, sought_told}
 use Rattle.routing.proofs.seek.Goals as goal

@@ -1,6 +1,5 @@
 -- `routing::sheet_table_and_document` meets its contract.
 use Rattle.base.specs.Loops.{and_then}
-use borrow.Author.Rules.{rules}
 use Rattle.routing.specs.ThreeJudged.{three_place}
 use Rattle.routing.proofs.sheet_table_and_document.Goals as goal
 

@@ -1,6 +1,5 @@
 -- `routing::subscription_matches` meets its contract: by the places that were reached.
 use mathlib.Core.Path.{sym, ◌∙◌}
-use borrow.Author.Rules.{rules}
 use Rattle.documents.specs.DocumentJudged.{sheet-document-stand}
 use Rattle.routing.specs.RouteAnswers.{match_refused, match_answered}
 use Rattle.routing.proofs.subscription_matches.Goals as goal

@@ -1,6 +1,5 @@
 -- `routing::table_route` meets its contract: by the place that was reached.
 use mathlib.Core.Path.{sym, ◌∙◌}
-use borrow.Author.Rules.{rules}
 use Rattle.routing.specs.ThreeJudged.{three_stand}
 use Rattle.routing.specs.RouteAnswers.{table-refused, table-delivered}
 use Rattle.routing.proofs.table_route.Goals as goal

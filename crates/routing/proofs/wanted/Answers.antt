@@ -1,6 +1,5 @@
 -- `routing::wanted` meets its contract: what was sought, without the tries.
 use mathlib.Core.Path.{ap, sym, ◌∙◌}
-use borrow.Author.Rules.{rules}
 use Rattle.routing.specs.Sought.{without_tries, sought_wanted}
 use Rattle.routing.proofs.wanted.Goals as goal
 

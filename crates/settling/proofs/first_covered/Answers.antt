@@ -1,11 +1,8 @@
 -- `first_covered` meets its contract: the search from the place reached gives what the whole search gives.
-use mathlib.Core.Logic.{⊎_elim}
-use Prim.Native.Nat.{◌-◌, ◌≤◌}
 use mathlib.Core.Path.{◌≡◌, refl, sym, ◌∙◌}
 use mathlib.Core.Bool.{false}
 use native.Mathlib.Omega.{arith}
 use borrow.Author.Rules.{rules}
-use Rattle.base.specs.Loops.{scan}
 use Rattle.base.specs.Scanning.{scan-stops, scan-goes_on, scan-ends}
 use Rattle.shapes.specs.Shapes.{table_of}
 use Rattle.shapes.specs.TableValues.{no_entry_value, entry-sound}
@@ -34,9 +31,9 @@ loop-k-preserved c =
     let l = c.loop-k in
     let here : covers_at (table_of c.args.t) c.args.i l.k ≡ false =
     elim c.if-k-i.branch [
-      then-k-i+else-covers w ↦
-        sym (covers_other_lem c.args.t c.args.i l.k c.requires.0 c.requires.1 (omega arith) w.if-k-i.true)
-        ∙ sym w.covers.ensures ∙ w.if-covers.false
+      | then-k-i+else-covers w ↦
+          sym (covers_other_lem c.args.t c.args.i l.k c.requires.0 c.requires.1 (omega arith) w.if-k-i.true)
+          ∙ sym w.covers.ensures ∙ w.if-covers.false
       | else-k-i w ↦ covers-itself c.args.t c.args.i l.k w.if-k-i.false
     ] in
     (omega arith, scan-goes_on _ _ _ _ (omega arith) here l.invariant.1)

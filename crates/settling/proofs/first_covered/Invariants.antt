@@ -1,16 +1,9 @@
 -- `first_covered` meets its contract: the search from the place reached gives what the whole search gives.
-use mathlib.Core.Logic.{⊎_elim}
 use Prim.Native.Nat.{◌-◌, ◌≤◌}
-use mathlib.Core.Path.{◌≡◌, refl, sym, ◌∙◌}
-use mathlib.Core.Bool.{false}
-use native.Mathlib.Omega.{arith}
-use borrow.Author.Rules.{rules}
+use mathlib.Core.Path.{◌≡◌}
 use Rattle.base.specs.Loops.{scan}
-use Rattle.base.specs.Scanning.{scan-stops, scan-goes_on, scan-ends}
 use Rattle.shapes.specs.Shapes.{table_of}
-use Rattle.shapes.specs.TableValues.{no_entry_value, entry-sound}
 use Rattle.settling.specs.Settled.{covers_at}
-use Rattle.settling.specs.SettlingLoop.{covers-itself, covers_other_lem}
 use Rattle.settling.proofs.first_covered.Given as goal
 
 abbrev pub invariant-loop-k : goal.invariant-loop-k

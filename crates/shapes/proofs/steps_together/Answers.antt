@@ -1,8 +1,7 @@
 -- `shapes::steps_together` meets its contract: the steps of the entries passed are added up.
-use Prim.Native.Nat.{◌-◌}
 use native.Mathlib.Omega.{arith}
 use Rattle.shapes.specs.TableValues.{no_entry_value, entry-sound}
-use Rattle.shapes.specs.Summing.{Summed, sum_starts, sum-goes_on, sum-ends}
+use Rattle.shapes.specs.Summing.{sum_starts, sum-goes_on, sum-ends}
 use Rattle.shapes.proofs.steps_together.Goals as goal
 
 pub loop-i-init : goal.loop-i-init

@@ -1,8 +1,6 @@
 -- `shapes::steps_together` meets its contract: the steps of the entries passed are added up.
 use Prim.Native.Nat.{◌-◌}
-use native.Mathlib.Omega.{arith}
-use Rattle.shapes.specs.TableValues.{no_entry_value, entry-sound}
-use Rattle.shapes.specs.Summing.{Summed, sum_starts, sum-goes_on, sum-ends}
+use Rattle.shapes.specs.Summing.{Summed}
 use Rattle.shapes.proofs.steps_together.Given as goal
 
 abbrev pub invariant-loop-i : goal.invariant-loop-i

@@ -1,6 +1,5 @@
 -- `spelling::only_pattern` meets its contract.
 use Rattle.base.specs.Loops.{and_then}
-use borrow.Author.Rules.{rules}
 use Rattle.spelling.specs.OnlyPattern.{only_section}
 use Rattle.spelling.proofs.only_pattern.Goals as goal
 

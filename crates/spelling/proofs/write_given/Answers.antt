@@ -1,6 +1,5 @@
 -- `spelling::write_given` meets its contract: the pattern's bytes are judged first.
 use mathlib.Core.Path.{sym, ◌∙◌}
-use borrow.Author.Rules.{rules}
 use Rattle.meaning.specs.LineCalls.{output_answer}
 use Rattle.writing.specs.Gives.{gives-refusal, gives_same}
 use Rattle.spelling.specs.OnlyPattern.{only_taken}

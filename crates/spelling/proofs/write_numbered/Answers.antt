@@ -1,6 +1,5 @@
 -- `spelling::write_numbered` meets its contract: the number is looked at first.
 use native.Mathlib.Omega.{arith}
-use borrow.Author.Rules.{rules}
 use Rattle.meaning.specs.LineCalls.{output_answer}
 use Rattle.subscriptions.specs.Subscribed.{subscriptions_stand}
 use Rattle.writing.specs.Gives.{gives-refusal, gives_same}

@@ -1,6 +1,5 @@
 -- `spelling::write_pattern` meets its contract: the sheet is judged first, and a refusal leaves the output as found.
 use mathlib.Core.Path.{sym, ◌∙◌}
-use borrow.Author.Rules.{rules}
 use Rattle.meaning.specs.LineCalls.{output_answer}
 use Rattle.reading.specs.SheetJudged.{sheet-stands}
 use Rattle.writing.specs.Gives.{gives-refusal, gives_same}

@@ -1,7 +1,6 @@
 -- `subscriptions::after_pattern` meets its contract.
 use Rattle.reading.specs.SheetPlaces.{after_pattern}
 use native.Mathlib.Omega.{arith}
-use borrow.Author.Rules.{rules}
 use Rattle.subscriptions.proofs.after_pattern.Goals as goal
 
 pub returns : goal.returns

@@ -2,7 +2,6 @@
 use mathlib.Core.Path.{◌∙◌, ap}
 use Rattle.meaning.specs.Calls.{subscription}
 use Rattle.shapes.specs.Shapes.{pattern_of}
-use borrow.Author.Rules.{rules}
 use Rattle.subscriptions.proofs.numbered.Goals as goal
 
 pub returns : goal.returns

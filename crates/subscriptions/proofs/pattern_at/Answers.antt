@@ -2,7 +2,6 @@
 use Rattle.subscriptions.specs.Taken.{pattern_at}
 use Rattle.base.specs.Choice.{picks}
 use native.Mathlib.Omega.{arith}
-use borrow.Author.Rules.{rules}
 use Rattle.subscriptions.proofs.pattern_at.Goals as goal
 
 pub returns-then-s-x : goal.returns-then-s-x

@@ -1,12 +1,11 @@
 -- `subscriptions::pattern_places` meets its contract.
 -- The invariant: what is filled is what stands there, and x is where the next one stands; the measure: what is left.
-use Rattle.subscriptions.specs.Taken.{itself, pattern_places}
+use Rattle.subscriptions.specs.Taken.{itself}
 use Rattle.reading.specs.SheetPlaces.{after_pattern}
-use native.Mathlib.Omega.{arith}
-use lib.ListN.{length, length-set}
-use mathlib.Core.Path.{◌≡◌, refl, ◌∙◌}
+use lib.ListN.{length}
+use mathlib.Core.Path.{◌≡◌}
 use Prim.Native.Nat.{◌+◌, ◌*◌, ◌-◌, ◌≤◌}
-use Rattle.base.specs.Standing.{FilledUpTo, fill_starts, fill-goes_on, fill-ends}
+use Rattle.base.specs.Standing.{FilledUpTo}
 use Rattle.meaning.specs.Numbers.{most_patterns}
 use Rattle.subscriptions.proofs.pattern_places.Given as goal
 

@@ -1,7 +1,6 @@
 -- `subscriptions::step_at` meets its contract.
 use mathlib.Core.Path.{refl}
 use Rattle.reading.specs.SheetPlaces.{step_at_place}
-use borrow.Author.Rules.{rules}
 use Rattle.subscriptions.proofs.step_at.Goals as goal
 
 pub returns : goal.returns

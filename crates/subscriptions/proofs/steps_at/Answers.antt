@@ -1,15 +1,14 @@
 -- `subscriptions::steps_at` meets its contract.
 -- The invariant: what is filled is what stands there, x is where the next one stands, and behind it all is empty; the measure: what is left.
-use Rattle.reading.specs.SheetPlaces.{step_at_place, after_step, steps_at}
+use Rattle.reading.specs.SheetPlaces.{after_step, steps_at}
 use Rattle.shapes.specs.Shapes.{no_steps}
 use Rattle.subscriptions.specs.Taken.{steps_filled}
 use native.Mathlib.Omega.{arith}
-use lib.ListN.{length, drop, length-set, take-append-drop}
+use lib.ListN.{drop, length-set, take-append-drop}
 use lib.Seq.{drop-drop, drop-set-lt}
 use mathlib.Core.Path.{◌≡◌, refl, sym, ap, ◌∙◌}
-use Prim.Native.Nat.{◌+◌, ◌*◌, ◌-◌, ◌≤◌}
-use Rattle.base.specs.Standing.{FilledUpTo, fill_starts, fill-goes_on}
-use Rattle.meaning.specs.Numbers.{most_steps}
+use Prim.Native.Nat.{◌+◌}
+use Rattle.base.specs.Standing.{fill_starts, fill-goes_on}
 use Rattle.subscriptions.proofs.steps_at.Goals as goal
 
 pub loop-i-init : goal.loop-i-init

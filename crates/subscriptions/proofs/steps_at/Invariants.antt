@@ -1,14 +1,11 @@
 -- `subscriptions::steps_at` meets its contract.
 -- The invariant: what is filled is what stands there, x is where the next one stands, and behind it all is empty; the measure: what is left.
-use Rattle.reading.specs.SheetPlaces.{step_at_place, after_step, steps_at}
+use Rattle.reading.specs.SheetPlaces.{step_at_place, after_step}
 use Rattle.shapes.specs.Shapes.{no_steps}
-use Rattle.subscriptions.specs.Taken.{steps_filled}
-use native.Mathlib.Omega.{arith}
-use lib.ListN.{length, drop, length-set, take-append-drop}
-use lib.Seq.{drop-drop, drop-set-lt}
-use mathlib.Core.Path.{◌≡◌, refl, sym, ap, ◌∙◌}
+use lib.ListN.{length, drop}
+use mathlib.Core.Path.{◌≡◌}
 use Prim.Native.Nat.{◌+◌, ◌*◌, ◌-◌, ◌≤◌}
-use Rattle.base.specs.Standing.{FilledUpTo, fill_starts, fill-goes_on}
+use Rattle.base.specs.Standing.{FilledUpTo}
 use Rattle.meaning.specs.Numbers.{most_steps}
 use Rattle.subscriptions.proofs.steps_at.Given as goal
 

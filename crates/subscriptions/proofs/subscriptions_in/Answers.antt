@@ -1,7 +1,6 @@
 -- `subscriptions::subscriptions_in` meets its contract.
 use Rattle.reading.specs.SheetPlaces.{pattern_count_at}
 use Rattle.subscriptions.specs.Taken.{subscription_count, subscriptions_of}
-use borrow.Author.Rules.{rules}
 use Rattle.subscriptions.proofs.subscriptions_in.Goals as goal
 
 pub returns : goal.returns

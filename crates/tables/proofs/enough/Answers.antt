@@ -4,7 +4,6 @@ use lib.ListN.{length}
 use lib.Dec.{leb}
 use mathlib.Core.Path.{◌≡◌, ap}
 use native.Mathlib.Omega.{arith}
-use borrow.Author.Rules.{rules}
 use Rattle.tables.proofs.enough.Goals as goal
 
 pub returns-then-t-x : goal.returns-then-t-x

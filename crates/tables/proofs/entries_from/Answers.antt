@@ -1,10 +1,6 @@
 -- `tables::entries_from` meets its contract.
 -- The invariant: i entries are read, and the next one stands at x; the measure: what is left.
-use Prim.Native.Nat.{◌-◌}
-use Rattle.places.specs.ReadingLoop.{ReadSoFar, reading_starts, reads_on, reads-fault, all_read}
-use Rattle.places.specs.InTurn.{each_place}
-use Rattle.tables.specs.TableSection.{entry_section}
-use borrow.Author.Rules.{rules}
+use Rattle.places.specs.ReadingLoop.{reads_on, reads-fault, all_read}
 use native.Mathlib.Omega.{arith}
 use Rattle.tables.proofs.entries_from.Goals as goal
 

@@ -1,5 +1,4 @@
 -- `tables::entries_in` meets its contract.
-use borrow.Author.Rules.{rules}
 use Rattle.tables.specs.TableSection.{table_entries}
 use Rattle.tables.proofs.entries_in.Goals as goal
 

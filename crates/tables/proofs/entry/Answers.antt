@@ -4,7 +4,6 @@ use borrow.Author.Tests.{leb-true}
 use Rattle.tables.specs.TableSection.{entry_section}
 use Rattle.base.specs.Choice.{picks}
 use native.Mathlib.Omega.{arith}
-use borrow.Author.Rules.{rules}
 use Rattle.tables.proofs.entry.Goals as goal
 
 pub overflow_add-x : goal.overflow_add-x

@@ -2,7 +2,6 @@
 use native.Mathlib.Omega.{arith}
 use Prim.Native.Nat.{◌+◌}
 use Rattle.subscriptions.specs.TakenRead.{pattern-past}
-use borrow.Author.Rules.{rules}
 use Rattle.tables.specs.TableSection.{entry_taken}
 use Rattle.tables.proofs.entry_at.Goals as goal
 

@@ -2,10 +2,9 @@
 -- The invariant: what is filled is what stands there, and x is where the next one stands; the measure: what is left.
 use Rattle.subscriptions.specs.Taken.{itself}
 use native.Mathlib.Omega.{arith}
-use lib.ListN.{length, length-set}
-use mathlib.Core.Path.{◌≡◌, refl, ◌∙◌}
-use Prim.Native.Nat.{◌+◌, ◌*◌, ◌-◌, ◌≤◌}
-use Rattle.base.specs.Standing.{FilledUpTo, fill_starts, fill-goes_on, fill-ends}
+use lib.ListN.{length-set}
+use mathlib.Core.Path.{refl, ◌∙◌}
+use Rattle.base.specs.Standing.{fill_starts, fill-goes_on, fill-ends}
 use Rattle.tables.specs.TableSection.{after_entry, entry_places}
 use Rattle.meaning.specs.Numbers.{most_entries}
 use Rattle.tables.proofs.entry_places.Goals as goal

@@ -1,12 +1,11 @@
 -- `tables::entry_places` meets its contract.
 -- The invariant: what is filled is what stands there, and x is where the next one stands; the measure: what is left.
 use Rattle.subscriptions.specs.Taken.{itself}
-use native.Mathlib.Omega.{arith}
-use lib.ListN.{length, length-set}
-use mathlib.Core.Path.{◌≡◌, refl, ◌∙◌}
+use lib.ListN.{length}
+use mathlib.Core.Path.{◌≡◌}
 use Prim.Native.Nat.{◌+◌, ◌*◌, ◌-◌, ◌≤◌}
-use Rattle.base.specs.Standing.{FilledUpTo, fill_starts, fill-goes_on, fill-ends}
-use Rattle.tables.specs.TableSection.{after_entry, entry_places}
+use Rattle.base.specs.Standing.{FilledUpTo}
+use Rattle.tables.specs.TableSection.{after_entry}
 use Rattle.meaning.specs.Numbers.{most_entries}
 use Rattle.tables.proofs.entry_places.Given as goal
 

@@ -1,7 +1,6 @@
 -- `tables::members_at` meets its contract.
 use native.Mathlib.Omega.{arith}
 use Rattle.places.specs.NumberRead.{eight_bytes, number_past}
-use borrow.Author.Rules.{rules}
 use Rattle.tables.proofs.members_at.Goals as goal
 
 pub returns-then-t-x : goal.returns-then-t-x

@@ -1,6 +1,5 @@
 -- `tables::sheet_and_table` meets its contract.
 use Rattle.base.specs.Loops.{and_then}
-use borrow.Author.Rules.{rules}
 use Rattle.tables.specs.TableSection.{sheet_table_place}
 use Rattle.tables.proofs.sheet_and_table.Goals as goal
 

@@ -3,7 +3,6 @@ use Prim.Native.Nat.{◌<◌}
 use Rattle.base.specs.Loops.{and_then}
 use Rattle.base.specs.Choice.{picks}
 use native.Mathlib.Omega.{arith}
-use borrow.Author.Rules.{rules}
 use Rattle.tables.specs.TableSection.{table_section}
 use Rattle.meaning.specs.Numbers.{most_entries}
 use Rattle.tables.proofs.table.Goals as goal

@@ -1,8 +1,6 @@
 -- `texts::put_decimal` meets its contract. The tenth is a smaller number, so the calls end.
 use native.Mathlib.Omega.{arith}
-use borrow.Author.Rules.{rules}
 use Rattle.texts.specs.Decimals.{digit-put, last-put}
-use Prim.Native.Nat.{ℕ, ◌<◌}
 use Rattle.texts.proofs.+put_decimal.Goals as goal
 
 pub returns-then-n-lt10 : goal.returns-then-n-lt10

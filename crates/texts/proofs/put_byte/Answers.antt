@@ -1,7 +1,6 @@
 -- `texts::put_byte` meets its contract. A byte goes to the next place, or there is none.
 use native.Mathlib.Omega.{arith}
 use Rattle.texts.specs.PutText.{byte_fits, byte_lost}
-use borrow.Author.Rules.{rules}
 use Rattle.texts.proofs.put_byte.Goals as goal
 
 pub returns-then-at-out : goal.returns-then-at-out

@@ -1,6 +1,5 @@
 -- `texts::put_counted` meets its contract. The number, and then the text.
 use Rattle.texts.specs.PutText.{put_then}
-use borrow.Author.Rules.{rules}
 use Rattle.texts.proofs.put_counted.Goals as goal
 
 pub returns : goal.returns

@@ -1,6 +1,5 @@
 -- `texts::put_if` meets its contract. The byte is put, or left out.
 use Rattle.texts.specs.Wanted.{byte_put, byte-left-out}
-use borrow.Author.Rules.{rules}
 use Rattle.texts.proofs.put_if.Goals as goal
 
 pub returns-then-wanted : goal.returns-then-wanted

@@ -2,7 +2,6 @@
 use Rattle.texts.specs.PutText.{put_then}
 use Rattle.meaning.specs.PatternText.{ascii}
 use Rattle.meaning.specs.Printing.{refused_text}
-use borrow.Author.Rules.{rules}
 use Rattle.texts.proofs.put_refused.Goals as goal
 
 pub returns : goal.returns

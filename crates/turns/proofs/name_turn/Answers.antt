@@ -1,6 +1,5 @@
 -- `turns::name_turn` meets its contract.
 use mathlib.Core.Path.{refl, sym, ◌∙◌}
-use borrow.Author.Rules.{rules}
 use borrow.Author.Tests.{ne_eqb}
 use Rattle.base.specs.Choice.{pick_true, pick_false, picks}
 use Rattle.turns.specs.Turns.{name_turn}

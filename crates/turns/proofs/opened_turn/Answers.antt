@@ -1,5 +1,4 @@
 -- `turns::opened_turn` meets its contract.
-use borrow.Author.Rules.{rules}
 use Rattle.base.specs.Choice.{picks}
 use Rattle.turns.specs.Turns.{opened_turn}
 use Rattle.turns.proofs.opened_turn.Goals as goal

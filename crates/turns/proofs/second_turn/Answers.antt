@@ -1,5 +1,4 @@
 -- `turns::second_turn` meets its contract.
-use borrow.Author.Rules.{rules}
 use Rattle.base.specs.Choice.{picks}
 use Rattle.turns.specs.Turns.{second_turn}
 use Rattle.turns.proofs.second_turn.Goals as goal

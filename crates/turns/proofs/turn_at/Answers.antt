@@ -1,5 +1,4 @@
 -- `turns::turn_at` meets its contract.
-use borrow.Author.Rules.{rules}
 use Rattle.turns.specs.Turns.{turn_at, start-turn, ended-turn}
 use Rattle.turns.proofs.turn_at.Goals as goal
 

@@ -1,7 +1,6 @@
 -- `writing::pattern_length` meets its contract: one byte of count and three a step.
 use native.Mathlib.Omega.{arith}
 use Rattle.writing.specs.BytesWritten.{pattern_length_lem}
-use borrow.Author.Rules.{rules}
 use Rattle.writing.proofs.pattern_length.Goals as goal
 
 pub returns : goal.returns

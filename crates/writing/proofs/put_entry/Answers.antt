@@ -1,6 +1,5 @@
 -- `writing::put_entry` meets its contract: the members stand first, and the pattern eight bytes behind.
 use native.Mathlib.Omega.{arith}
-use borrow.Author.Rules.{rules}
 use Rattle.writing.specs.BytesWritten.{entry_length, entry_stored}
 use Rattle.writing.proofs.put_entry.Goals as goal
 

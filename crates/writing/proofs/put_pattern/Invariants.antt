@@ -1,15 +1,8 @@
 -- `writing::put_pattern` meets its contract. In turn k the steps from k on are left to store.
 use Prim.Native.Nat.{◌+◌, ◌-◌, ◌*◌}
-use mathlib.Core.Path.{refl, ◌∙◌}
-use native.Mathlib.Omega.{arith}
-use native.Mathlib.Numerals.{add-one}
-use borrow.Author.Rules.{rules}
-use lib.ListN.{length-set}
-use lib.Seq.{sets, length-sets}
-use Rattle.base.specs.Storing.{parts_from, left-first, left-same, StoringTurn, turn-room, turn-goes_on, turns_end}
+use lib.Seq.{sets}
+use Rattle.base.specs.Storing.{parts_from, StoringTurn}
 use Rattle.meaning.specs.Written.{step_bytes}
-use Rattle.meaning.specs.declared.Step.{Step}
-use Rattle.writing.specs.BytesWritten.{pattern_bytes_lem, pattern_length_lem, steps-length}
 use Rattle.writing.proofs.put_pattern.Given as goal
 
 abbrev pub invariant-loop-k : goal.invariant-loop-k

@@ -3,7 +3,6 @@ use native.Mathlib.Omega.{arith}
 use native.Mathlib.Numerals.{add-one, add-two}
 use lib.ListN.{length-set}
 use Rattle.meaning.specs.Written.{step_bytes}
-use borrow.Author.Rules.{rules}
 use Rattle.writing.proofs.put_step.Goals as goal
 
 pub bounds-out-at-2 : goal.bounds-out-at-2

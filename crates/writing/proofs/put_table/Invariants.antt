@@ -1,15 +1,11 @@
 -- `writing::put_table` meets its contract. In turn i the entries from i on are left to store.
 use Prim.Native.Nat.{◌-◌}
-use mathlib.Core.Path.{refl, ap, ◌∙◌}
-use native.Mathlib.Omega.{arith}
-use borrow.Author.Rules.{rules}
-use lib.ListN.{length, length-set}
-use lib.Seq.{sets, length-sets}
-use Rattle.base.specs.Storing.{parts_from, left-first, left-same, StoringTurn, turn-room, turn-goes_on, turns_end}
+use lib.ListN.{length}
+use lib.Seq.{sets}
+use Rattle.base.specs.Storing.{parts_from, StoringTurn}
 use Rattle.meaning.specs.Written.{table_bytes}
 use Rattle.shapes.specs.Shapes.{table_of}
-use Rattle.shapes.specs.TableValues.{no_entry_value, entries_fit, entry-sound}
-use Rattle.writing.specs.BytesWritten.{bytes_of, table_bytes_lem}
+use Rattle.writing.specs.BytesWritten.{bytes_of}
 use Rattle.writing.proofs.put_table.Given as goal
 
 abbrev pub invariant-loop-i : goal.invariant-loop-i

@@ -1,9 +1,7 @@
 -- `writing::table_length` meets its contract. In turn i the length and that of the entries from i on are the table's.
-use Prim.Native.Nat.{◌-◌}
 use native.Mathlib.Omega.{arith}
-use borrow.Author.Rules.{rules}
 use Rattle.shapes.specs.TableValues.{no_entry_value, entry-sound}
-use Rattle.writing.specs.BytesWritten.{Measuring, measuring_starts, measuring_goes_on, measuring_ends}
+use Rattle.writing.specs.BytesWritten.{measuring_starts, measuring_goes_on, measuring_ends}
 use Rattle.writing.proofs.table_length.Goals as goal
 
 pub loop-i-init : goal.loop-i-init

@@ -1,5 +1,4 @@
 -- `writing::write_pattern` meets its contract, where there is room and where there is none.
-use borrow.Author.Rules.{rules}
 use Rattle.writing.specs.OutputAfter.{written, not_written}
 use Rattle.writing.proofs.write_pattern.Goals as goal
 

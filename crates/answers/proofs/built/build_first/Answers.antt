@@ -1,7 +1,6 @@
 -- `answers::built::build_first` meets its contract: the build from one entry for each subscription, where there is room and where there is none.
 use Rattle.subscriptions.specs.Subscribed.{subscriptions_stand}
 use Rattle.answers.specs.Outcome.{build_is, build-same, build-written, build-no_room}
-use borrow.Author.Rules.{rules}
 use Rattle.answers.proofs.built.build_first.Goals as goal
 
 pub first_entries-requires : goal.first_entries-requires

@@ -1,11 +1,7 @@
 -- `answers::built::first_entries` meets its contract: so far there is one entry for each of the first subscriptions.
 use Prim.Native.Nat.{◌-◌}
-use mathlib.Core.Path.{refl}
-use native.Mathlib.Omega.{arith}
-use borrow.Author.Rules.{rules}
 use Rattle.reading.specs.SheetPlaces.{sheet_at}
-use Rattle.meaning.specs.Calls.{subscription}
-use Rattle.answers.specs.Growing.{FirstOnes, first_none, first_more, first_all}
+use Rattle.answers.specs.Growing.{FirstOnes}
 use Rattle.answers.proofs.built.first_entries.Given as goal
 
 abbrev pub invariant-loop-i : goal.invariant-loop-i

@@ -1,7 +1,6 @@
 -- `answers::built::with_entry` meets its contract: the entry stands last, and the table is sound.
 use mathlib.Core.Path.{refl}
 use Rattle.answers.specs.Growing.{grown-table, grown-sound}
-use borrow.Author.Rules.{rules}
 use Rattle.answers.proofs.built.with_entry.Goals as goal
 
 pub returns : goal.returns

@@ -2,7 +2,6 @@
 use native.Mathlib.Omega.{arith}
 use Rattle.subscriptions.specs.Subscribed.{subscriptions_stand}
 use Rattle.answers.specs.Says.{both_there_lem, first-not_there, second-not_there, covers_there, covers-not_there}
-use borrow.Author.Rules.{rules}
 use Rattle.answers.proofs.covered.covers_numbered.Goals as goal
 
 pub returns-then-count-i : goal.returns-then-count-i

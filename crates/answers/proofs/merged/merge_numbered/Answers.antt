@@ -3,7 +3,6 @@ use native.Mathlib.Omega.{arith}
 use Rattle.subscriptions.specs.Subscribed.{subscriptions_stand}
 use Rattle.answers.specs.Says.{both_there_lem, first-not_there, second-not_there}
 use Rattle.answers.specs.Outcome.{merge_is, merge-not_there, merge-refuses, merge-same}
-use borrow.Author.Rules.{rules}
 use Rattle.answers.proofs.merged.merge_numbered.Goals as goal
 
 pub returns-then-count-i : goal.returns-then-count-i

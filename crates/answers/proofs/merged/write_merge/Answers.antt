@@ -1,6 +1,5 @@
 -- `answers::merged::write_merge` meets its contract, where there is room and where there is none.
 use Rattle.answers.specs.Outcome.{merge-written, merge-no_room}
-use borrow.Author.Rules.{rules}
 use Rattle.answers.proofs.merged.write_merge.Goals as goal
 
 pub returns-then-write_pattern : goal.returns-then-write_pattern

@@ -1,8 +1,8 @@
 -- `best_in_row` meets its contract: the pairs of the row that are left give what the whole row gives.
-use Prim.Native.Nat.{◌-◌, ◌<◌}
+use Prim.Native.Nat.{◌<◌}
 use native.Mathlib.Omega.{arith}
 use Rattle.shapes.specs.TableValues.{no_entry_value, entry-sound}
-use Rattle.building.specs.Finding.{InRow, row_starts, row_better, row_no_better, row_ends}
+use Rattle.building.specs.Finding.{row_starts, row_better, row_no_better, row_ends}
 use Rattle.building.proofs.rounds.best_in_row.Goals as goal
 use Rattle.building.proofs.rounds.best_in_row.Goals.{then-best-n, else-best-n}
 
@@ -20,7 +20,7 @@ loop-j-preserved c =
     let n = c.saves-n.ensures in
     let h : l.j < c.args.t.count = omega arith in
     elim c.if-best-n.branch [
-      then-best-n w ↦ rw w.best-is (row_better l.invariant c.requires.0 h n w.if-best-n.true)
+      | then-best-n w ↦ rw w.best-is (row_better l.invariant c.requires.0 h n w.if-best-n.true)
       | else-best-n w ↦ rw w.best-is (row_no_better l.invariant c.requires.0 h n w.if-best-n.false)
     ]
 

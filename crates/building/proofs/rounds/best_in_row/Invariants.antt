@@ -1,9 +1,6 @@
 -- `best_in_row` meets its contract: the pairs of the row that are left give what the whole row gives.
-use Prim.Native.Nat.{◌-◌, ◌<◌}
-use mathlib.Core.Logic.{⊎_elim}
-use native.Mathlib.Omega.{arith}
-use Rattle.shapes.specs.TableValues.{no_entry_value, entry-sound}
-use Rattle.building.specs.Finding.{InRow, row_starts, row_better, row_no_better, row_ends}
+use Prim.Native.Nat.{◌-◌}
+use Rattle.building.specs.Finding.{InRow}
 use Rattle.building.proofs.rounds.best_in_row.Given as goal
 
 abbrev pub invariant-loop-j : goal.invariant-loop-j

@@ -1,7 +1,6 @@
 -- `best_pair` meets its contract: the rows that are left give what all rows give.
-use Prim.Native.Nat.{◌-◌}
 use native.Mathlib.Omega.{arith}
-use Rattle.building.specs.Rows.{InRows, rows_start, rows_go_on, rows_end}
+use Rattle.building.specs.Rows.{rows_start, rows_go_on, rows_end}
 use Rattle.building.proofs.rounds.best_pair.Goals as goal
 
 pub loop-i-init : goal.loop-i-init

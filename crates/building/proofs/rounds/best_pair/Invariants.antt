@@ -1,7 +1,6 @@
 -- `best_pair` meets its contract: the rows that are left give what all rows give.
 use Prim.Native.Nat.{◌-◌}
-use native.Mathlib.Omega.{arith}
-use Rattle.building.specs.Rows.{InRows, rows_start, rows_go_on, rows_end}
+use Rattle.building.specs.Rows.{InRows}
 use Rattle.building.proofs.rounds.best_pair.Given as goal
 
 abbrev pub invariant-loop-i : goal.invariant-loop-i

@@ -1,7 +1,6 @@
 -- `cut` meets its contract: the steps but the last.
 use Rattle.building.specs.Shortened.{cut-shorter, shorter-sound, cut-nothing}
 use native.Mathlib.Omega.{arith}
-use borrow.Author.Rules.{rules}
 use Rattle.building.proofs.rounds.cut.Goals as goal
 
 pub returns-then-p-gt0 : goal.returns-then-p-gt0

@@ -1,8 +1,6 @@
 -- `cut_largest` meets its contract: the cut is put where the entry with most steps stands.
-use native.Mathlib.Omega.{arith}
 use Rattle.shapes.specs.TableValues.{no_entry_value, entry-sound}
 use Rattle.building.specs.Largest.{cut_empty, cut_there, cut-sound}
-use borrow.Author.Rules.{rules}
 use Rattle.building.proofs.rounds.cut_largest.Goals as goal
 
 pub returns-then-t-eq0 : goal.returns-then-t-eq0

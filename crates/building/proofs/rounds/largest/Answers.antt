@@ -1,7 +1,7 @@
 -- `largest` meets its contract: the entries that are left give what all give.
-use Prim.Native.Nat.{◌-◌, ◌<◌}
+use Prim.Native.Nat.{◌<◌}
 use native.Mathlib.Omega.{arith}
-use Rattle.building.specs.Largest.{Largest, largest_starts, larger, not_larger, largest-ends}
+use Rattle.building.specs.Largest.{largest_starts, larger, not_larger, largest-ends}
 use Rattle.building.proofs.rounds.largest.Goals as goal
 use Rattle.building.proofs.rounds.largest.Goals.{then-p-q, else-p-q}
 
@@ -13,7 +13,7 @@ loop-j-preserved c =
     let l = c.loop-j in
     let h : l.j < c.args.t.count = omega arith in
     elim c.if-p-q.branch [
-      then-p-q w ↦ rw w.i-is (larger l.invariant c.requires.0 h w.if-p-q.true)
+      | then-p-q w ↦ rw w.i-is (larger l.invariant c.requires.0 h w.if-p-q.true)
       | else-p-q w ↦ rw w.i-is (not_larger l.invariant c.requires.0 h w.if-p-q.false)
     ]
 

@@ -1,8 +1,6 @@
 -- `largest` meets its contract: the entries that are left give what all give.
-use Prim.Native.Nat.{◌-◌, ◌<◌}
-use mathlib.Core.Logic.{⊎_elim}
-use native.Mathlib.Omega.{arith}
-use Rattle.building.specs.Largest.{Largest, largest_starts, larger, not_larger, largest-ends}
+use Prim.Native.Nat.{◌-◌}
+use Rattle.building.specs.Largest.{Largest}
 use Rattle.building.proofs.rounds.largest.Given as goal
 
 abbrev pub invariant-loop-j : goal.invariant-loop-j

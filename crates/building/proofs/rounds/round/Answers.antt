@@ -1,7 +1,6 @@
 -- `round` meets its contract: a merge or a cut, then settling.
 use mathlib.Core.Path.{◌∙◌, ap}
 use Rattle.meaning.specs.Building.{settle, round}
-use borrow.Author.Rules.{rules}
 use Rattle.building.proofs.rounds.round.Goals as goal
 
 pub returns : goal.returns

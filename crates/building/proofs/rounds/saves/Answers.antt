@@ -1,7 +1,6 @@
 -- `saves` meets its contract: sizes are counts.
 use Rattle.building.specs.Saving.{saved_counts}
 use native.Mathlib.Omega.{arith}
-use borrow.Author.Rules.{rules}
 use Rattle.building.proofs.rounds.saves.Goals as goal
 
 pub returns-then-m-both : goal.returns-then-m-both

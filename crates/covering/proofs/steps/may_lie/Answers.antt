@@ -15,7 +15,7 @@ returns-then-t-ne0 c =
     let t = c.args.t in
     let both : c.if-starred.result ≡ (starred && any_or_same s.label t.label) =
     elim c.if-starred.branch [
-      then-starred w ↦ rw w.if-starred.true (w.result-is ∙ c.any_or_same-fits.ensures)
+      | then-starred w ↦ rw w.if-starred.true (w.result-is ∙ c.any_or_same-fits.ensures)
       | else-starred w ↦ rw w.if-starred.false (w.result-is ∙ w.if-starred.false)
     ] in
     both ∙ near_on_far s.axis s.label t.axis t.label starred c.if-s-eq0.true (rw (ne_eqb t.axis 0 c.if-t-ne0.true))

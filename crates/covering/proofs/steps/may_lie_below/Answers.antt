@@ -1,6 +1,6 @@
 -- `steps::may_lie_below` meets its contract: a near step elsewhere than at a child, or what `may_lie` says.
 use mathlib.Core.Path.{◌∙◌}
-use mathlib.Core.Logic.{⊎_elim, inl, inr}
+use mathlib.Core.Logic.{inl, inr}
 use Rattle.covering.specs.Questions.{may_lie_below}
 use Rattle.covering.specs.Tests.{near_elsewhere, within_reach}
 use Rattle.std.proofs.Common.{eq-eqb, ne_eqb}
@@ -21,6 +21,6 @@ returns c =
     let t = c.args.t in
     c.may_lie.ensures
     ∙ within_reach s.axis c.args.w t.parent _ (elim c.else-s-eq0.branch [
-      else-s-eq0-via-then-s-eq0+else-t-w w ↦ inl (rw (eq-eqb t.parent c.args.w w.if-t-w.false))
+      | else-s-eq0-via-then-s-eq0+else-t-w w ↦ inl (rw (eq-eqb t.parent c.args.w w.if-t-w.false))
       | else-s-eq0-via-else-s-eq0 w ↦ inr w.if-s-eq0.false
     ])

@@ -1,12 +1,8 @@
 -- `labels::written::writable` meets its contract.
 -- The invariant: the bytes that are left decide; the measure: how many are left.
-use mathlib.Core.Path.{◌≡◌, refl, sym, ap, ◌∙◌}
-use mathlib.Core.Bool.{not}
+use mathlib.Core.Path.{◌≡◌}
 use Prim.Native.Nat.{◌-◌}
 use lib.ListN.{length, drop}
-use native.Mathlib.Omega.{arith}
-use borrow.Author.Rules.{rules}
-use Rattle.base.specs.Along.{every-goes_on, every-stops, every-ends}
 use Rattle.base.specs.Lists.{every}
 use Rattle.meaning.specs.Notation.{unbarred, writable}
 use Rattle.labels.proofs.written.writable.Given as goal

@@ -1,8 +1,6 @@
 -- `lines::drawn::near_roots` meets its contract. The loop: those counted and those still to come are all.
-use Prim.Native.Nat.{◌+◌, ◌-◌, ◌≤◌}
-use mathlib.Core.Path.{◌≡◌, sym, ◌∙◌}
+use mathlib.Core.Path.{sym, ◌∙◌}
 use native.Mathlib.Omega.{arith}
-use borrow.Author.Rules.{rules}
 use Rattle.shapes.specs.Steps.{step_in}
 use Rattle.lines.specs.NearRoots.{near_roots_from, near-counted, near_not, near-ends}
 use Rattle.lines.proofs.drawn.near_roots.Goals as goal

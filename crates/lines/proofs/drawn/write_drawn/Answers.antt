@@ -1,7 +1,5 @@
 -- `lines::drawn::write_drawn` meets its contract: a refusal leaves the output as found.
 use native.Mathlib.Omega.{arith}
-use borrow.Author.Rules.{rules}
-use borrow.Author.Tests.{not-true, not-false}
 use Rattle.meaning.specs.LineCalls.{drawn_answer}
 use Rattle.writing.specs.Gives.{gives-refusal, gives_same, gives-written, gives-no_room}
 use Rattle.lines.specs.Said.{said_unknown, said-many, said-near, said-written}

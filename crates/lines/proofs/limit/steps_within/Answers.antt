@@ -1,7 +1,6 @@
 -- `lines::limit::steps_within` meets its contract.
 use mathlib.Core.Path.{sym}
 use native.Mathlib.Omega.{arith}
-use borrow.Author.Rules.{rules}
 use lib.Seq.{length-take-le}
 use Rattle.meaning.specs.Numbers.{longest_line}
 use Rattle.lines.specs.Limit.{within-limit, longer-sound, longer_off}

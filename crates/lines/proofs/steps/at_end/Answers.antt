@@ -1,7 +1,5 @@
 -- `lines::steps::at_end` meets its contract.
 use mathlib.Core.Path.{refl, sym, ◌∙◌}
-use borrow.Author.Rules.{rules}
-use borrow.Author.Tests.{not-true, not-false}
 use Rattle.base.specs.Choice.{pick_true, pick_false}
 use Rattle.lines.specs.Found.{sound_line}
 use Rattle.lines.proofs.steps.at_end.Goals as goal

@@ -1,5 +1,4 @@
 -- `lines::steps::may_end` meets its contract.
-use borrow.Author.Rules.{rules}
 use Rattle.lines.specs.Ends.{may_end_at}
 use Rattle.lines.proofs.steps.may_end.Goals as goal
 

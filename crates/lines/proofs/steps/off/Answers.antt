@@ -1,6 +1,5 @@
 -- `lines::steps::off` meets its contract.
 use mathlib.Core.Path.{refl}
-use borrow.Author.Rules.{rules}
 use Rattle.lines.specs.Found.{off_line}
 use Rattle.lines.proofs.steps.off.Goals as goal
 

@@ -1,11 +1,9 @@
 -- `lines::steps::steps_of` meets its contract.
 -- The invariant: how far the line has been read is a stand of the definition; the measure: the bytes that are left.
-use Prim.Native.Nat.{◌-◌}
 use mathlib.Core.Path.{◌≡◌, refl, ap, subst}
 use lib.ListN.{length, get_or}
 use lib.Seq.{set_out}
 use native.Mathlib.Omega.{arith}
-use borrow.Author.Rules.{rules}
 use Rattle.labels.specs.LabelPlaces.{labels_in}
 use Rattle.turns.specs.declared.Turn.TheVariants as turn
 use Rattle.turns.specs.declared.names.Name.{Name}

@@ -1,7 +1,6 @@
 -- `matching::masks::mark` meets its contract: one bit more, which no shift by less than 16 loses, or the word as it was.
 use mathlib.Core.Path.{refl, ap, ◌∙◌}
 use native.Mathlib.Omega.{arith}
-use borrow.Author.Rules.{rules}
 use lib.Bits.{bit_or}
 use lib.Pow.{shl_exact}
 use Rattle.base.specs.Choice.{pick_true, pick_false}

@@ -1,14 +1,13 @@
 -- `matching::masks::masks_of` meets its contract: in turn k the masks are those of the first k steps.
-use Prim.Native.Nat.{◌*◌, ◌-◌, ◌%◌, ◌^◌, ◌≤◌, ◌<◌}
+use Prim.Native.Nat.{◌*◌, ◌%◌, ◌^◌, ◌<◌}
 use mathlib.Core.Path.{◌≡◌, sym, ◌∙◌}
 use native.Mathlib.Omega.{arith}
-use borrow.Author.Rules.{rules}
 use lib.ListN.{length}
 use lib.Pow.{shl_exact}
 use Rattle.meaning.specs.Numbers.{most_steps}
 use Rattle.shapes.specs.Shapes.{steps_in}
 use Rattle.shapes.specs.Steps.{step_in, length-steps, step_at_lem, parent-low}
-use Rattle.matching.specs.Masks.{MasksSoFar, with_far, masks_start, masks_go_on}
+use Rattle.matching.specs.Masks.{masks_start, masks_go_on}
 use Rattle.matching.proofs.masks.masks_of.Goals as goal
 
 pub loop-k-init : goal.loop-k-init

@@ -1,14 +1,7 @@
 -- `matching::masks::masks_of` meets its contract: in turn k the masks are those of the first k steps.
-use Prim.Native.Nat.{◌*◌, ◌-◌, ◌%◌, ◌^◌, ◌≤◌, ◌<◌}
-use mathlib.Core.Path.{◌≡◌, sym, ◌∙◌}
-use native.Mathlib.Omega.{arith}
-use borrow.Author.Rules.{rules}
-use lib.ListN.{length}
-use lib.Pow.{shl_exact}
-use Rattle.meaning.specs.Numbers.{most_steps}
+use Prim.Native.Nat.{◌-◌, ◌≤◌}
 use Rattle.shapes.specs.Shapes.{steps_in}
-use Rattle.shapes.specs.Steps.{step_in, length-steps, step_at_lem, parent-low}
-use Rattle.matching.specs.Masks.{MasksSoFar, with_far, masks_start, masks_go_on}
+use Rattle.matching.specs.Masks.{MasksSoFar, with_far}
 use Rattle.matching.proofs.masks.masks_of.Given as goal
 
 abbrev pub invariant-loop-k : goal.invariant-loop-k

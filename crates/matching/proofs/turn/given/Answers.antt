@@ -1,9 +1,6 @@
 -- `matching::turn::given` meets its contract: what is left from place k on gives what all sixteen give.
-use Prim.Native.Nat.{◌-◌}
 use mathlib.Core.Path.{◌≡◌, refl}
 use native.Mathlib.Omega.{arith}
-use borrow.Author.Rules.{rules}
-use Rattle.base.specs.Loops.{fold_n}
 use Rattle.base.specs.Along.{fold_n-goes_on, fold_n-ends}
 use Rattle.meaning.specs.Numbers.{most_steps}
 use Rattle.matching.specs.NodeTurns.{masks_lent, one_given, with_given, given}

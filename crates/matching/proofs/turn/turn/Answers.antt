@@ -1,5 +1,4 @@
 -- `matching::turn::turn` meets its contract: the parent's word takes what the node gives.
-use borrow.Author.Rules.{rules}
 use Rattle.matching.specs.NodeTurns.{turned}
 use Rattle.matching.proofs.turn.turn.Goals as goal
 

@@ -3,7 +3,6 @@ use mathlib.Core.Path.{◌∙◌, ap}
 use Rattle.subscriptions.specs.Subscribed.{subscriptions_stand}
 use Rattle.texts.specs.PutText.{put}
 use Rattle.printing.specs.Printed.{text-built}
-use borrow.Author.Rules.{rules}
 use Rattle.printing.proofs.printed.put_built.Goals as goal
 
 pub first_entries-requires : goal.first_entries-requires

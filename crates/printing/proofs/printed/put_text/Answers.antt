@@ -1,7 +1,6 @@
 -- `printing::printed::put_text` meets its contract: a short input and a sheet that is refused give a refusal, any other sheet its table.
 use native.Mathlib.Omega.{arith}
 use Rattle.printing.specs.Printed.{put-short, put_no, put_yes, part_stands}
-use borrow.Author.Rules.{rules}
 use Rattle.printing.proofs.printed.put_text.Goals as goal
 
 pub returns-then-input-lt2 : goal.returns-then-input-lt2

@@ -2,7 +2,6 @@
 use Prim.Native.Nat.{◌<◌}
 use Rattle.base.specs.Choice.{picks}
 use native.Mathlib.Omega.{arith}
-use borrow.Author.Rules.{rules}
 use Rattle.reading.specs.SheetSection.{pattern_section}
 use Rattle.meaning.specs.Numbers.{most_steps}
 use Rattle.reading.proofs.patterns.pattern.Goals as goal

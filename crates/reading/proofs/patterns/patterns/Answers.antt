@@ -1,6 +1,5 @@
 -- `reading::patterns::patterns` meets its contract.
 use Rattle.base.specs.Choice.{picks}
-use borrow.Author.Rules.{rules}
 use Rattle.reading.specs.SheetSection.{patterns_place}
 use Rattle.reading.proofs.patterns.patterns.Goals as goal
 

@@ -1,11 +1,9 @@
 -- `reading::patterns::patterns_from` meets its contract.
 -- The invariant: i patterns are read, and the next one stands at x; the measure: what is left.
 use Prim.Native.Nat.{◌-◌}
-use Rattle.places.specs.ReadingLoop.{ReadSoFar, reading_starts, reads_on, reads-fault, all_read}
+use Rattle.places.specs.ReadingLoop.{ReadSoFar}
 use Rattle.places.specs.InTurn.{each_place}
 use Rattle.reading.specs.SheetSection.{pattern_section}
-use borrow.Author.Rules.{rules}
-use native.Mathlib.Omega.{arith}
 use Rattle.reading.proofs.patterns.patterns_from.Given as goal
 
 abbrev pub invariant-loop-i : goal.invariant-loop-i

@@ -1,8 +1,6 @@
 -- `reading::steps::climbs_to` meets its contract.
 -- The invariant: where the climb stands; the measure: the turns that are left.
-use Prim.Native.Nat.{◌-◌}
-use Rattle.reading.specs.ClimbingLoop.{Climbing, climb_starts, climb_meets, climb_tops, climb_goes_on, climb_ends}
-use borrow.Author.Rules.{rules}
+use Rattle.reading.specs.ClimbingLoop.{climb_meets, climb_tops, climb_goes_on, climb_ends}
 use native.Mathlib.Omega.{arith}
 use Rattle.reading.proofs.steps.climbs_to.Goals as goal
 

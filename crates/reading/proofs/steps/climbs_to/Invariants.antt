@@ -1,9 +1,7 @@
 -- `reading::steps::climbs_to` meets its contract.
 -- The invariant: where the climb stands; the measure: the turns that are left.
 use Prim.Native.Nat.{◌-◌}
-use Rattle.reading.specs.ClimbingLoop.{Climbing, climb_starts, climb_meets, climb_tops, climb_goes_on, climb_ends}
-use borrow.Author.Rules.{rules}
-use native.Mathlib.Omega.{arith}
+use Rattle.reading.specs.ClimbingLoop.{Climbing}
 use Rattle.reading.proofs.steps.climbs_to.Given as goal
 
 abbrev pub invariant-loop-i : goal.invariant-loop-i

@@ -1,13 +1,11 @@
 -- `reading::steps::near_at_root` meets its contract.
 -- The invariant: what is left from here gives what all gives from the start; the measure: what is left.
-use mathlib.Core.Path.{◌≡◌, refl}
+use mathlib.Core.Path.{◌≡◌}
 use Prim.Native.Nat.{◌+◌, ◌*◌, ◌-◌, ◌≤◌}
-use Rattle.base.specs.Standing.{standing, some-hits, some-goes_on, some-ends}
+use Rattle.base.specs.Standing.{standing}
 use Rattle.meaning.specs.Sections.{is_near_root}
 use Rattle.base.specs.Lists.{some}
-use native.Mathlib.Nat.{sub-zero}
-use native.Mathlib.Omega.{arith}
-use Rattle.reading.specs.SheetPlaces.{step_at_place, after_step, steps_at}
+use Rattle.reading.specs.SheetPlaces.{step_at_place, after_step}
 use Rattle.reading.proofs.steps.near_at_root.Given as goal
 
 abbrev pub invariant-loop-i : goal.invariant-loop-i

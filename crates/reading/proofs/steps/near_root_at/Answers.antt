@@ -1,7 +1,6 @@
 -- `reading::steps::near_root_at` meets its contract.
 use borrow.Author.Tests.{eq-eqb, ne_eqb}
 use Rattle.meaning.specs.Sections.{is_near_root, near_root}
-use borrow.Author.Rules.{rules}
 use Rattle.reading.specs.SheetPlaces.{step_at_place}
 use Rattle.reading.proofs.steps.near_root_at.Goals as goal
 

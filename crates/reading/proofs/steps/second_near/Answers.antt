@@ -1,7 +1,6 @@
 -- `reading::steps::second_near` meets its contract.
 use borrow.Author.Tests.{eq-eqb, ne_eqb}
 use Rattle.meaning.specs.Sections.{near_root}
-use borrow.Author.Rules.{rules}
 use Rattle.reading.specs.StepSection.{is_second_near}
 use Rattle.reading.proofs.steps.second_near.Goals as goal
 

@@ -1,7 +1,6 @@
 -- `reading::steps::step` meets its contract.
 use borrow.Author.Tests.{not-true, not-false}
 use Rattle.base.specs.Choice.{picks}
-use borrow.Author.Rules.{rules}
 use Rattle.reading.specs.StepSection.{step_place}
 use Rattle.reading.proofs.steps.step.Goals as goal
 

@@ -1,6 +1,5 @@
 -- `reading::steps::step_label` meets its contract.
 use Rattle.base.specs.Choice.{picks}
-use borrow.Author.Rules.{rules}
 use Rattle.reading.specs.StepSection.{step_label}
 use Rattle.reading.proofs.steps.step_label.Goals as goal
 

@@ -1,10 +1,8 @@
 -- `reading::steps::steps` meets its contract.
 -- The invariant: k steps are read, and the next one stands at x; the measure: what is left.
 use Prim.Native.Nat.{◌-◌}
-use Rattle.places.specs.ReadingLoop.{ReadSoFar, reading_starts, reads_on, reads-fault, all_read}
+use Rattle.places.specs.ReadingLoop.{ReadSoFar}
 use Rattle.reading.specs.StepSection.{step_place}
-use borrow.Author.Rules.{rules}
-use native.Mathlib.Omega.{arith}
 use Rattle.reading.proofs.steps.steps.Given as goal
 
 abbrev pub invariant-loop-k : goal.invariant-loop-k

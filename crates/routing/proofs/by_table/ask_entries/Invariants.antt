@@ -1,12 +1,9 @@
 -- `routing::by_table::ask_entries` meets its contract: what is left from entry j on gives the whole route.
 use Prim.Native.Nat.{◌-◌}
-use native.Mathlib.Omega.{arith}
-use borrow.Author.Rules.{rules}
 use Rattle.shapes.specs.Shapes.{nodes_at}
 use Rattle.reading.specs.SheetPlaces.{sheet_at}
-use Rattle.tables.specs.TableJudged.{entry_here}
 use Rattle.tables.specs.TableSection.{table_at}
-use Rattle.routing.specs.Tabling.{start, TryingEntries, entries-start, entries-go_on, entries-end}
+use Rattle.routing.specs.Tabling.{TryingEntries}
 use Rattle.routing.proofs.by_table.ask_entries.Given as goal
 
 abbrev pub invariant-loop-j : goal.invariant-loop-j

@@ -1,5 +1,4 @@
 -- `routing::by_table::ask_member` meets its contract: what is tried is marked.
-use borrow.Author.Rules.{rules}
 use Rattle.routing.specs.Tabling.{tried-marked}
 use Rattle.routing.proofs.by_table.ask_member.Goals as goal
 

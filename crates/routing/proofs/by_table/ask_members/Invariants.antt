@@ -1,11 +1,8 @@
 -- `routing::by_table::ask_members` meets its contract: what is left from subscription i on gives what all give.
 use Prim.Native.Nat.{◌-◌}
-use mathlib.Core.Path.{ap}
-use native.Mathlib.Omega.{arith}
-use Rattle.meaning.specs.Satisfying.{satisfies}
 use Rattle.shapes.specs.Shapes.{nodes_at}
 use Rattle.reading.specs.SheetPlaces.{sheet_at}
-use Rattle.routing.specs.Tabling.{TryingMembers, members-start, members-go_on, members-end}
+use Rattle.routing.specs.Tabling.{TryingMembers}
 use Rattle.routing.proofs.by_table.ask_members.Given as goal
 
 abbrev pub invariant-loop-i : goal.invariant-loop-i

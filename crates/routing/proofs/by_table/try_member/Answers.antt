@@ -1,5 +1,4 @@
 -- `routing::by_table::try_member` meets its contract: a member is tried, another is left.
-use borrow.Author.Rules.{rules}
 use Rattle.routing.specs.Tabling.{try_of_member, try_of_another}
 use Rattle.routing.proofs.by_table.try_member.Goals as goal
 

@@ -1,12 +1,7 @@
 -- `routing::wanting::seek_entries` meets its contract: asking from entry j on gives what asking all gives.
-use Prim.Native.Nat.{◌-◌}
 use native.Mathlib.Omega.{arith}
-use borrow.Author.Rules.{rules}
-use Rattle.shapes.specs.Shapes.{nodes_at}
-use Rattle.reading.specs.SheetPlaces.{sheet_at}
 use Rattle.tables.specs.TableJudged.{entry_here}
-use Rattle.tables.specs.TableSection.{table_at}
-use Rattle.routing.specs.Wanting.{SeekingEntries, seeking_entries_starts, seeking_entries-stops, seeking_entries-goes_on, seeking_entries-ends, all_asked}
+use Rattle.routing.specs.Wanting.{seeking_entries_starts, seeking_entries-stops, seeking_entries-goes_on, seeking_entries-ends, all_asked}
 use Rattle.routing.proofs.wanting.seek_entries.Goals as goal
 
 pub loop-j-init : goal.loop-j-init

@@ -1,11 +1,8 @@
 -- `routing::wanting::seek_members` meets its contract: asking from subscription i on gives what asking all gives.
 use Prim.Native.Nat.{◌-◌}
-use mathlib.Core.Path.{ap}
-use native.Mathlib.Omega.{arith}
-use Rattle.meaning.specs.Satisfying.{satisfies}
 use Rattle.shapes.specs.Shapes.{nodes_at}
 use Rattle.reading.specs.SheetPlaces.{sheet_at}
-use Rattle.routing.specs.Wanting.{SeekingMembers, seeking_starts, seeking_stops, seeking_goes_on, seeking_ends}
+use Rattle.routing.specs.Wanting.{SeekingMembers}
 use Rattle.routing.proofs.wanting.seek_members.Given as goal
 
 abbrev pub invariant-loop-i : goal.invariant-loop-i

@@ -2,7 +2,6 @@
 use mathlib.Core.Path.{refl, ◌∙◌}
 use Rattle.settling.specs.Placing.{put-sound}
 use Rattle.settling.specs.JoinedEntries.{both_joined}
-use borrow.Author.Rules.{rules}
 use Rattle.settling.proofs.entries.join_at.Goals as goal
 
 pub remove-requires : goal.remove-requires

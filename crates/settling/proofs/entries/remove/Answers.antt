@@ -1,9 +1,9 @@
 -- `remove` meets its contract: the entries after j are moved down, up to the place reached.
-use Prim.Native.Nat.{◌-◌, ◌≤◌}
+use Prim.Native.Nat.{◌-◌}
 use mathlib.Core.Path.{◌≡◌, refl}
 use native.Mathlib.Omega.{arith}
 use Rattle.shapes.specs.TableValues.{no_entry_value}
-use Rattle.settling.specs.Removing.{Moved, moved_starts, moved-goes_on, table-removed, sound-removed}
+use Rattle.settling.specs.Removing.{moved_starts, moved-goes_on, table-removed, sound-removed}
 use Rattle.settling.proofs.entries.remove.Goals as goal
 
 pub loop-k-init : goal.loop-k-init

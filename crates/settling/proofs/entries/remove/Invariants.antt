@@ -1,9 +1,7 @@
 -- `remove` meets its contract: the entries after j are moved down, up to the place reached.
 use Prim.Native.Nat.{◌-◌, ◌≤◌}
-use mathlib.Core.Path.{◌≡◌, refl}
-use native.Mathlib.Omega.{arith}
-use Rattle.shapes.specs.TableValues.{no_entry_value}
-use Rattle.settling.specs.Removing.{Moved, moved_starts, moved-goes_on, table-removed, sound-removed}
+use mathlib.Core.Path.{◌≡◌}
+use Rattle.settling.specs.Removing.{Moved}
 use Rattle.settling.proofs.entries.remove.Given as goal
 
 abbrev pub invariant-loop-k : goal.invariant-loop-k

@@ -1,11 +1,9 @@
 -- `spelling::line::all_writable` meets its contract.
 -- The invariant: the steps that are left decide; the measure: how many are left.
-use Prim.Native.Nat.{◌-◌}
 use native.Mathlib.Omega.{arith}
-use borrow.Author.Rules.{rules}
 use Rattle.shapes.specs.Steps.{step_in}
 use Rattle.reading.specs.SheetPlaces.{sheet_at}
-use Rattle.spelling.specs.StepsWritable.{WritableSoFar, steps-start, steps_stop, steps-go_on, steps-done}
+use Rattle.spelling.specs.StepsWritable.{steps-start, steps_stop, steps-go_on, steps-done}
 use Rattle.spelling.proofs.line.all_writable.Goals as goal
 
 pub loop-k-init : goal.loop-k-init

@@ -1,11 +1,8 @@
 -- `spelling::line::all_writable` meets its contract.
 -- The invariant: the steps that are left decide; the measure: how many are left.
 use Prim.Native.Nat.{◌-◌}
-use native.Mathlib.Omega.{arith}
-use borrow.Author.Rules.{rules}
-use Rattle.shapes.specs.Steps.{step_in}
 use Rattle.reading.specs.SheetPlaces.{sheet_at}
-use Rattle.spelling.specs.StepsWritable.{WritableSoFar, steps-start, steps_stop, steps-go_on, steps-done}
+use Rattle.spelling.specs.StepsWritable.{WritableSoFar}
 use Rattle.spelling.proofs.line.all_writable.Given as goal
 
 abbrev pub invariant-loop-k : goal.invariant-loop-k

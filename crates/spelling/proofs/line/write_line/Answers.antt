@@ -1,6 +1,5 @@
 -- `spelling::line::write_line` meets its contract: the labels are asked first, then the room, and only then is it written.
 use mathlib.Core.Path.{sym}
-use borrow.Author.Rules.{rules}
 use lib.Seq.{length-take-le}
 use Rattle.spelling.specs.PutLine.{line-put, line_refused, line-no_room, line-written}
 use Rattle.spelling.proofs.line.write_line.Goals as goal

@@ -2,15 +2,9 @@
 -- give. The calls end since fewer steps are left.
 use mathlib.Core.Path.{refl}
 use native.Mathlib.Omega.{arith}
-use borrow.Author.Rules.{rules}
-use Rattle.meaning.specs.PatternText.{branches_text}
-use Rattle.laws.specs.Children.{children_from}
-use Rattle.shapes.specs.Shapes.{steps_in}
 use Rattle.shapes.specs.Steps.{step_in}
-use Rattle.texts.specs.PutText.{LeftToPut, left-first, left-goes_on, left-stays, left_none, left-same, put_is}
-use Rattle.labels.specs.LabelPlaces.{labels_in}
+use Rattle.texts.specs.PutText.{left-goes_on, left-stays, left_none, put_is}
 use Rattle.texts.specs.BranchTexts.{branch-text, other_text, end-text, below_text_lem}
-use Prim.Native.Nat.{ℕ, ◌-◌, ◌≤◌, ◌<◌}
 use Rattle.texts.proofs.pattern.+put_below.Goals as goal
 
 pub put_below-next-requires : goal.put_below-next-requires

@@ -1,7 +1,6 @@
 -- `texts::pattern::put_axis` meets its contract. One stroke or two.
 use Rattle.texts.specs.PutText.{put_is}
 use Rattle.texts.specs.StepTexts.{near-text, far-text}
-use borrow.Author.Rules.{rules}
 use Rattle.texts.proofs.pattern.put_axis.Goals as goal
 
 pub returns-then-axis-eq0 : goal.returns-then-axis-eq0

@@ -2,7 +2,6 @@
 use mathlib.Core.Path.{sym, ◌∙◌}
 use Rattle.texts.specs.PutText.{put_is}
 use Rattle.texts.specs.StepTexts.{any_text, label_text_lem}
-use borrow.Author.Rules.{rules}
 use Rattle.texts.proofs.pattern.put_label.Goals as goal
 
 pub returns-then-l-eq0 : goal.returns-then-l-eq0

@@ -1,7 +1,6 @@
 -- `texts::pattern::put_pattern` meets its contract. A dot, or the branches below the root.
 use Rattle.texts.specs.PutText.{put_is}
 use Rattle.texts.specs.BranchTexts.{dot-text, pattern_text_lem}
-use borrow.Author.Rules.{rules}
 use Rattle.texts.proofs.pattern.put_pattern.Goals as goal
 
 pub returns-then-p-eq0 : goal.returns-then-p-eq0

@@ -1,7 +1,6 @@
 -- `texts::pattern::put_step` meets its contract. The axis, and then the label.
 use Rattle.texts.specs.PutText.{put_then}
 use Rattle.texts.specs.BranchTexts.{step_text}
-use borrow.Author.Rules.{rules}
 use Rattle.texts.proofs.pattern.put_step.Goals as goal
 
 pub returns : goal.returns

@@ -1,12 +1,8 @@
 -- `texts::pattern::several_below` meets its contract. The loop: the branches counted and those still to come are all.
-use Prim.Native.Nat.{◌+◌, ◌-◌, ◌≤◌}
-use mathlib.Core.Path.{◌≡◌}
 use native.Mathlib.Omega.{arith}
-use borrow.Author.Rules.{rules}
-use Rattle.laws.specs.Children.{children_from, children_of}
-use Rattle.shapes.specs.Shapes.{steps_in}
+use Rattle.laws.specs.Children.{children_of}
 use Rattle.shapes.specs.Steps.{step_in}
-use Rattle.texts.specs.BranchTexts.{branches, branch-counted, branch_not, all_counted}
+use Rattle.texts.specs.BranchTexts.{branch-counted, branch_not, all_counted}
 use Rattle.texts.proofs.pattern.several_below.Goals as goal
 
 pub loop-k-init : goal.loop-k-init

@@ -1,6 +1,5 @@
 -- `turns::course::closed_course` meets its contract.
 use mathlib.Core.Path.{refl}
-use borrow.Author.Rules.{rules}
 use Rattle.turns.specs.Courses.{closed_course}
 use Rattle.turns.proofs.course.closed_course.Goals as goal
 

@@ -1,7 +1,6 @@
 -- `turns::course::keep` meets its contract.
 use mathlib.Core.Path.{sym}
 use native.Mathlib.Omega.{arith}
-use borrow.Author.Rules.{rules}
 use lib.Seq.{set_out}
 use Rattle.turns.proofs.course.keep.Goals as goal
 

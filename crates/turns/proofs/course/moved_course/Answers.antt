@@ -1,6 +1,5 @@
 -- `turns::course::moved_course` meets its contract.
 use mathlib.Core.Path.{refl}
-use borrow.Author.Rules.{rules}
 use Rattle.turns.specs.Courses.{moved_course}
 use Rattle.turns.proofs.course.moved_course.Goals as goal
 

@@ -1,6 +1,5 @@
 -- `turns::course::named_course` meets its contract.
 use mathlib.Core.Path.{refl}
-use borrow.Author.Rules.{rules}
 use Rattle.turns.specs.Courses.{named_course}
 use Rattle.turns.proofs.course.named_course.Goals as goal
 

@@ -1,6 +1,5 @@
 -- `turns::course::one_more` meets its contract.
 use native.Mathlib.Omega.{arith}
-use borrow.Author.Rules.{rules}
 use Rattle.base.specs.Choice.{picks}
 use Rattle.turns.specs.Courses.{counted}
 use Rattle.turns.proofs.course.one_more.Goals as goal

@@ -1,11 +1,9 @@
 -- `turns::names::label_end` meets its contract.
 -- The invariant: from here the end is as far as from the start; the measure: what is left.
-use mathlib.Core.Path.{◌≡◌, refl, sym, ◌∙◌}
+use mathlib.Core.Path.{◌≡◌}
 use Prim.Native.Nat.{◌+◌, ◌-◌, ◌≤◌}
 use lib.ListN.{length, drop}
-use native.Mathlib.Omega.{arith}
-use borrow.Author.Rules.{rules}
-use Rattle.turns.specs.Names.{label_long, label-stops, label-goes_on, label-ends}
+use Rattle.turns.specs.Names.{label_long}
 use Rattle.turns.proofs.names.label_end.Given as goal
 
 abbrev pub invariant-loop-i : goal.invariant-loop-i

@@ -1,6 +1,5 @@
 -- `turns::names::name_at` meets its contract.
 use native.Mathlib.Omega.{arith}
-use borrow.Author.Rules.{rules}
 use Rattle.turns.specs.Names.{star-name, label-name}
 use Rattle.turns.proofs.names.name_at.Goals as goal
 

@@ -19,7 +19,8 @@ use Rattle.reading.specs.SheetPlaces.{forest_at, after_pattern, forests_at, patt
 use Rattle.texts.specs.PutText.{written, put, put_whole}
 use Rattle.labels.specs.LabelPlaces.{labels_in}
 use Rattle.printing.specs.TableTexts.{built_table, text_of, text_of_lem}
-use Rattle.printing.specs.Room.{Small, table-room, refused-room}
+use Rattle.printing.specs.Room.{Small}
+use Rattle.printing.proofs.Room.{table-room, refused-room}
 
 -- a sheet has as many subscriptions as it counts
 pub sheet_subscriptions : (s : List ℕ) → length (sheet_at s).patterns ≡ get_or s (pattern_count_at s) 0

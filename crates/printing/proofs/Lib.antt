@@ -1,0 +1,3 @@
+pub mod MemberTexts
+pub mod Room
+pub mod Enough
