@@ -2,7 +2,7 @@
 use Rattle.std.specs.Prelude.{ℕ, ◌≡◌, List}
 use Rattle.meaning.specs.Given.{by_number, MergeValues, BuildValues, LineValues}
 use Rattle.meaning.specs.Promises.{CoversGives, MergeGives, BuildGives, ReadLineGives, WritePatternGives, WriteSubscriptionGives}
-use Rattle.meaning.specs.Sharp.{only_one, by_number_tells}
+use Rattle.meaning.proofs.Sharp.{only_one, by_number_tells}
 use Rattle.hub_bench.specs.declared.Covering.{Covering}
 use Rattle.hub_bench.specs.declared.Merging.{Merging}
 use Rattle.hub_bench.specs.declared.Building.{Building}

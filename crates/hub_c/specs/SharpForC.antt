@@ -3,7 +3,7 @@
 use Rattle.std.specs.Prelude.{ℕ, ◌≡◌, List}
 use Rattle.meaning.specs.Given.{by_number, RouteValues}
 use Rattle.meaning.specs.Promises.{PlainRouteGives, TableRouteGives, WantedGives}
-use Rattle.meaning.specs.Sharp.{only_one, by_number_tells}
+use Rattle.meaning.proofs.Sharp.{only_one, by_number_tells}
 use Rattle.hub_c.specs.declared.PlainRoute.{PlainRoute}
 use Rattle.hub_c.specs.declared.TableRoute.{TableRoute}
 use Rattle.hub_c.specs.declared.Wanted.{Wanted}

@@ -19,7 +19,6 @@ pub mod Calls
 pub mod LineCalls
 pub mod Given
 pub mod Promises
-pub mod Sharp
 pub mod Printing
 pub mod RoseBench
 pub mod Examples
