@@ -3,7 +3,6 @@
 use Rattle.std.specs.Prelude.{ℕ, zero, suc, Bool, true, false, List, [], ◌∷◌, ◌++◌}
 use Prim.Native.Char.{code}
 use Prim.Native.String.{String}
-use Prim.Native.String
 use Rattle.meaning.specs.Forest.{Axis, near, far, Forest, none, step}
 use Rattle.meaning.specs.LabelBytes.{label_at}
 

@@ -1,10 +1,7 @@
 -- Every byte has its two places in the line: i is at most 65,535, and the line keeps its length. The measure is what is left.
 use Prim.Native.Nat.{◌≤◌, ◌-◌}
 use mathlib.Core.Path.{◌≡◌}
-use lib.ListN.{length, length-set, length-take}
-use native.Mathlib.Omega.{arith}
-use borrow.Author.Tests.{ltb-true}
-use borrow.Author.Rules.{rules}
+use lib.ListN.{length}
 use Rattle.ask.proofs.output.bytes.Given as goal
 
 abbrev pub invariant-loop-i : goal.invariant-loop-i
