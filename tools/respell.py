@@ -19,6 +19,8 @@ DECLARED = re.compile(r"\s*(?:(?:abbrev|unfoldable|data|record|ruleset|pub) )*([
 # functions of the library that lemmas are named for
 LIBRARY = {'length', 'append', 'drop', 'take', 'map', 'set', 'sets', 'get_or', 'eqb', 'cons', 'sum', 'add', 'mul', 'concat',
            'flat_map', 'div'}
+# what port.py wrote of `getD-map`
+WRITTEN = {'get_d_map': 'get_or-map'}
 # words that join others and name nothing by themselves, whatever a field or a constructor is called
 PLAIN = {'a', 'all', 'an', 'and', 'any', 'are', 'as', 'at', 'both', 'by', 'each', 'few', 'for', 'from', 'in', 'is', 'later', 'more',
          'no', 'none', 'not', 'of', 'off', 'on', 'one', 'or', 'other', 'over', 'so', 'than', 'the', 'then', 'there', 'to',
@@ -29,7 +31,8 @@ def snake(word):
     """`starredLeaf` as `starred_leaf`; what begins with a capital letter is a type and stays."""
     if not word or word[0].isupper():
         return word
-    return re.sub(r"(?<=[a-z0-9])_?([A-Z]+)", lambda m: '_' + m.group(1).lower(), word)
+    word = word.replace('getD', 'get_or')
+    return re.sub(r"(?<=[a-z0-9])(?=[A-Z])|(?<=[A-Z])(?=[A-Z][a-z])", '_', word).lower()
 
 
 def antt_files():
@@ -89,8 +92,9 @@ def renamings():
     words = {snake(n) for n in own if '-' not in n and not n[0].isupper()} | LIBRARY
     words |= set(re.findall(r'(?m)^\s*(?:pub )?fn (\w+)', '\n'.join(open(p).read() for p in sources())))
     theirs = of_the_library(paths)
-    new = {t: snake(t) for t in tokens if '-' not in t and snake(t) != t and t not in theirs}
+    new = {t: snake(t) for t in tokens if re.fullmatch(r"[a-z][\w']*", t) and snake(t) != t and t not in theirs}
     new |= {n: joined(n, words) for n in own if '-' in n and n[:1].islower() and joined(n, words) != n and n not in theirs}
+    new |= WRITTEN
     taken = {}
     for token in sorted(tokens):
         taken.setdefault(new.get(token, token), []).append(token)

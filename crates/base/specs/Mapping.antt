@@ -10,10 +10,10 @@ use Rattle.base.specs.ListLaws.{total-append}
 
 module _ {A : Type 0} where
   -- at a place of the list the default plays no part
-  pub get_d_there : (l : List A) (i : ℕ) (d e : A) → i < length l → get_or l i d ≡ get_or l i e
-  get_d_there [] i d e h = absurd (omega arith)
-  get_d_there (x ∷ xs) zero d e h = refl
-  get_d_there (x ∷ xs) (suc i) d e h = get_d_there xs i d e (omega arith)
+  pub get_or_there : (l : List A) (i : ℕ) (d e : A) → i < length l → get_or l i d ≡ get_or l i e
+  get_or_there [] i d e h = absurd (omega arith)
+  get_or_there (x ∷ xs) zero d e h = refl
+  get_or_there (x ∷ xs) (suc i) d e h = get_or_there xs i d e (omega arith)
 
   -- after a removal the elements before the place stay, and the later ones are moved down
   pub without-before : (j k : ℕ) (l : List A) (d : A) → k < j → get_or (without j l) k d ≡ get_or l k d
@@ -47,10 +47,10 @@ module _ {A : Type 0} where
 
 module _ {A B : Type 0} (f : A → B) where
   -- what a map holds at a place
-  pub get_d_map : (l : List A) (i : ℕ) (d : A) (e : B) → i < length l → get_or (map f l) i e ≡ f (get_or l i d)
-  get_d_map [] i d e h = absurd (omega arith)
-  get_d_map (x ∷ xs) zero d e h = refl
-  get_d_map (x ∷ xs) (suc i) d e h = get_d_map xs i d e (omega arith)
+  pub get_or-map : (l : List A) (i : ℕ) (d : A) (e : B) → i < length l → get_or (map f l) i e ≡ f (get_or l i d)
+  get_or-map [] i d e h = absurd (omega arith)
+  get_or-map (x ∷ xs) zero d e h = refl
+  get_or-map (x ∷ xs) (suc i) d e h = get_or-map xs i d e (omega arith)
 
   -- a replacement under a map
   pub map-set : (l : List A) (i : ℕ) (a : A) → map f (set l i a) ≡ set (map f l) i (f a)

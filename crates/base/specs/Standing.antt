@@ -75,11 +75,11 @@ module _ {A : Type 0} (here : ℕ → A) (next : ℕ → ℕ) where
   length-standing p (suc n) = ap suc (length-standing (next p) n)
 
   -- the i-th of them stands at its place
-  pub get_d_standing : (p n i : ℕ) (d : A) → i < n → get_or (standing p n) i d ≡ here (place_after next p i)
+  pub get_or-standing : (p n i : ℕ) (d : A) → i < n → get_or (standing p n) i d ≡ here (place_after next p i)
   unfolding standing place_after
-  get_d_standing p zero i d h = absurd (not-suc-le-zero h)
-  get_d_standing p (suc n) zero d h = refl
-  get_d_standing p (suc n) (suc i) d h = get_d_standing (next p) n i d (le_of_suc-le-suc h)
+  get_or-standing p zero i d h = absurd (not-suc-le-zero h)
+  get_or-standing p (suc n) zero d h = refl
+  get_or-standing p (suc n) (suc i) d h = get_or-standing (next p) n i d (le_of_suc-le-suc h)
 
 -- ---- a loop that looks for a thing of which the test holds: what is left of it from here gives what all of it gives
 module _ {A : Type 0} (here : ℕ → A) (next : ℕ → ℕ) (test : A → Bool) (n i x : ℕ) (whole : Bool) where

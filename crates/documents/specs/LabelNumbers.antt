@@ -9,7 +9,7 @@ use Rattle.std.proofs.Math.Seq.{get_or-append-add}
 use native.Mathlib.Omega.{arith}
 use borrow.Author.Tests.{le-leb, lt-leb}
 use Rattle.base.specs.Choice.{pick}
-use Rattle.base.specs.Standing.{place_after, get_d_standing}
+use Rattle.base.specs.Standing.{place_after, get_or-standing}
 use Rattle.base.specs.declared.Cur.TheVariants.{At, No}
 use Rattle.meaning.specs.Sections.{Sheet, sheet, Document, document}
 use Rattle.meaning.specs.LabelBytes.{labels_of, is_label, label_at}
@@ -96,7 +96,7 @@ module _ (s d : List ℕ) (n : ℕ) where
   part_of_sheet x h a b =
       sym (told x h a
       ∙ get_or-append (texts_at s 1 (get_or s 0 0)) (texts_at d 1 (get_or d 0 0)) [] (n - 1) (omega (arith, length-texts s 1 (get_or s 0 0)))
-      ∙ get_d_standing (text_at s) (after_label s) 1 (get_or s 0 0) (n - 1) [] (omega arith))
+      ∙ get_or-standing (text_at s) (after_label s) 1 (get_or s 0 0) (n - 1) [] (omega arith))
 
   -- from the document's
   pub part_of_document : (x : ℕ) → sheet_document_place s d ≡ At x → get_or s 0 0 < n → n - get_or s 0 0 ≤ get_or d 0 0
@@ -107,7 +107,7 @@ module _ (s d : List ℕ) (n : ℕ) where
       sym (told x h (omega arith)
       ∙ ap (λ (k : ℕ). get_or both_texts k []) past
       ∙ get_or-append-add (texts_at s 1 (get_or s 0 0)) (texts_at d 1 (get_or d 0 0)) (n - get_or s 0 0 - 1) []
-      ∙ get_d_standing (text_at d) (after_label d) 1 (get_or d 0 0) (n - get_or s 0 0 - 1) [] (omega arith))
+      ∙ get_or-standing (text_at d) (after_label d) 1 (get_or d 0 0) (n - get_or s 0 0 - 1) [] (omega arith))
 
   -- empty past the last
   pub part_over : (x : ℕ) → sheet_document_place s d ≡ At x → get_or s 0 0 < n → get_or d 0 0 < n - get_or s 0 0 → [] ≡ label_part s d n

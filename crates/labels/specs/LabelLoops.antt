@@ -9,7 +9,7 @@ use Rattle.std.proofs.Math.Seq.{drop-cons, take_all}
 use native.Mathlib.Omega.{arith}
 use Rattle.std.proofs.Math.Numerals.{add-one}
 use borrow.Author.Tests.{eq-eqb, ne_eqb}
-use Rattle.base.specs.Standing.{place_after, get_d_standing}
+use Rattle.base.specs.Standing.{place_after, get_or-standing}
 use Rattle.meaning.specs.Sections.{same_label}
 use Rattle.meaning.specs.LabelBytes.{label_at}
 use Rattle.labels.specs.LabelPlaces.{text_at, after_label, texts_at, labels_in}
@@ -100,4 +100,4 @@ module _ (s : List ℕ) where
   label_there zero h k = absurd (h refl)
   label_there (suc n) h k =
       let one : suc n - 1 ≡ n = omega arith in
-      ap (λ (m : ℕ). text_at s (place_after (after_label s) 1 m)) one ∙ sym (get_d_standing (text_at s) (after_label s) 1 (get_or s 0 0) n [] k)
+      ap (λ (m : ℕ). text_at s (place_after (after_label s) 1 m)) one ∙ sym (get_or-standing (text_at s) (after_label s) 1 (get_or s 0 0) n [] k)

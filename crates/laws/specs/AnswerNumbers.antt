@@ -7,7 +7,7 @@ use Rattle.std.proofs.Math.Bool.{true, false, not}
 use Rattle.std.proofs.lemmas.Bool.{false≢true}
 use Rattle.std.proofs.Math.ListN.{get_or-eq_default}
 use Rattle.base.specs.Choice.{pick}
-use Rattle.meaning.specs.Numbers.{done, count_outside, second_near, no_room, not_there, not_aline, label_unknown, not_writable, longest_line}
+use Rattle.meaning.specs.Numbers.{done, count_outside, second_near, no_room, not_there, not_a_line, label_unknown, not_writable, longest_line}
 use Rattle.meaning.specs.Reader.{Reading, read, refused, Went, number_of}
 use Rattle.meaning.specs.Forest.{Forest}
 use Rattle.meaning.specs.Sections.{Sheet, sheet, Document, document, Entry}
@@ -199,7 +199,7 @@ write_subscription_told s i out = output_told_of _ (room_not_zero out (subscript
 -- ---- and of a line read: a place comes with 13 alone, and is at most 1,024
 
 unfoldable PlaceTold : Lined → Type 0
-PlaceTold (lined.Refused n place) = (1 ≤ n) × (place ≤ longest_line) × ((n ≡ not_aline → ⊥) → place ≡ 0)
+PlaceTold (lined.Refused n place) = (1 ≤ n) × (place ≤ longest_line) × ((n ≡ not_a_line → ⊥) → place ≡ 0)
 PlaceTold (lined.Wrote long) = Unit {0}
 
 -- what is written comes with none
@@ -220,12 +220,12 @@ line-placed s line out = by_sheet (sheet s) (sheet-numbered.not_zero s)
     next : Sheet → List Drawn → Lined
     next sh ds = drawn_answer (with_room out (drawn_writing sh.labels ds))
 
-    by_line : (sh : Sheet) (r : LineRead) → read_line line ≡ r → PlaceTold (line_judged r (lined.Refused not_aline) (next sh))
+    by_line : (sh : Sheet) (r : LineRead) → read_line line ≡ r → PlaceTold (line_judged r (lined.Refused not_a_line) (next sh))
     by_line sh (off_at i) e = (omega arith, ⊎_elim (λ f. f.0) (λ f. omega arith) (refused-place line i e), λ other. absurd (other refl))
     by_line sh (draws ds) e = written-placed _ (room_not_zero out (drawn_writing sh.labels ds) (drawn_not_zero sh.labels ds))
 
     by_sheet : (m : Reading Sheet) → NotZero m
-        → PlaceTold (judged m (λ n. lined.Refused n 0) (λ sh. line_judged (read_line line) (lined.Refused not_aline) (next sh)))
+        → PlaceTold (judged m (λ n. lined.Refused n 0) (λ sh. line_judged (read_line line) (lined.Refused not_a_line) (next sh)))
     by_sheet (read sh left) h = by_line sh (read_line line) refl
     by_sheet (refused n) h = (h, omega arith, λ other. refl)
 
@@ -419,7 +419,7 @@ lined_cases (lined.Wrote long) h = absurd (false≢true h)
 
 -- which comes with 13 alone
 lined_place : (x : Lined) → PlaceTold x
-    → ((lined_given x).values.place ≤ longest_line) × (((lined_given x).number ≡ not_aline → ⊥) → (lined_given x).values.place ≡ 0)
+    → ((lined_given x).values.place ≤ longest_line) × (((lined_given x).number ≡ not_a_line → ⊥) → (lined_given x).values.place ≡ 0)
 unfolding lined_given refusal gives PlaceTold
 lined_place (lined.Refused n place) h = (h.1, h.2)
 lined_place (lined.Wrote long) h = (omega arith, λ other. refl)
@@ -462,13 +462,13 @@ line_as_found s line out h = by_sheet (sheet s) h
     written (refuses n) k = refl
     written (writes u bs) k = absurd (false≢true k)
 
-    by_line : (sh : Sheet) (r : LineRead) → (lined_given (line_judged r (lined.Refused not_aline) (next sh))).refused ≡ true
+    by_line : (sh : Sheet) (r : LineRead) → (lined_given (line_judged r (lined.Refused not_a_line) (next sh))).refused ≡ true
         → line_judged r (λ i. out) (left sh) ≡ out
     by_line sh (off_at i) k = refl
     by_line sh (draws ds) k = written (with_room out (drawn_writing sh.labels ds)) k
 
     by_sheet : (m : Reading Sheet)
-        → (lined_given (judged m (λ n. lined.Refused n 0) (λ sh. line_judged (read_line line) (lined.Refused not_aline) (next sh)))).refused ≡ true
+        → (lined_given (judged m (λ n. lined.Refused n 0) (λ sh. line_judged (read_line line) (lined.Refused not_a_line) (next sh)))).refused ≡ true
         → judged m (λ n. out) (λ sh. line_judged (read_line line) (λ i. out) (left sh)) ≡ out
     by_sheet (read sh rest) k = by_line sh (read_line line) k
     by_sheet (refused n) k = refl
@@ -526,7 +526,7 @@ module _ (s : List ℕ) where
 
   -- which is 0 with every number but 13, and at most 1,024
   pub read_line-place : (line found : List ℕ) (g : Given LineValues) (left : List ℕ) → ReadLineGives s line found g left
-      → (g.values.place ≤ longest_line) × ((g.number ≡ not_aline → ⊥) → g.values.place ≡ 0)
+      → (g.values.place ≤ longest_line) × ((g.number ≡ not_a_line → ⊥) → g.values.place ≡ 0)
   read_line-place line found g left r = rw r.answer (lined_place (line_answer found s line) (line-placed s line found))
 
 -- no label, no bytes

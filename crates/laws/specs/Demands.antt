@@ -9,7 +9,7 @@ use borrow.Author.Tests.{ltb-true, lt-ltb, le-leb, lt-leb}
 use Rattle.base.specs.Bools.{not_both}
 use Rattle.base.specs.Choice.{pick}
 use Rattle.base.specs.Lists.{every}
-use Rattle.meaning.specs.Numbers.{count_outside, second_near, no_room, not_there, not_aline, label_unknown, not_writable, most_steps, longest_line}
+use Rattle.meaning.specs.Numbers.{count_outside, second_near, no_room, not_there, not_a_line, label_unknown, not_writable, most_steps, longest_line}
 use Rattle.meaning.specs.Reader.{read, refused, Went, Reader}
 use Rattle.meaning.specs.Forest.{near, axis_of, Forest, none, step, is_none, size, steps_of, is_child}
 use Rattle.meaning.specs.Sections.{Sheet, sheet, Document, document, Node, Entry}
@@ -206,7 +206,7 @@ module _ (s : List ℕ) where
   read_line-refused = answers.read_line_zeros s
 
   pub place_with_13 : (line found : List ℕ) (g : Given LineValues) (left : List ℕ) → ReadLineGives s line found g left
-      → (g.values.place ≤ longest_line) × ((g.number ≡ not_aline → ⊥) → g.values.place ≡ 0)
+      → (g.values.place ≤ longest_line) × ((g.number ≡ not_a_line → ⊥) → g.values.place ≡ 0)
   place_with_13 = answers.read_line-place s
 
   pub label-refused : (d : List ℕ) (n : ℕ) → 1 ≤ label_number s d n → label_part s d n ≡ []
@@ -441,8 +441,8 @@ line-after-sheet = sheet-refused
 
 module _ (s left : List ℕ) (sh : Sheet) (was_read : sheet s ≡ read sh left) where
   -- 13 comes for those bytes alone, and with that place
-  pub not_a_line : (line : List ℕ) (i : ℕ) (out : List ℕ) → (line_answer out s line ≡ lined.Refused not_aline i) ↔ RefusedAt line i
-  not_a_line line i out = (refused_other s left sh was_read line out i, λ h. (other_refused s left sh was_read line i h).answer out)
+  pub not_a_line_lem : (line : List ℕ) (i : ℕ) (out : List ℕ) → (line_answer out s line ≡ lined.Refused not_a_line i) ↔ RefusedAt line i
+  not_a_line_lem line i out = (refused_other s left sh was_read line out i, λ h. (other_refused s left sh was_read line i h).answer out)
 
   -- ---- a line, with a sheet's labels
   module _ (line : List ℕ) (t : Sketch) (is-line : Line line t) (short : length line ≤ longest_line) where

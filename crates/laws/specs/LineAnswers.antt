@@ -5,7 +5,7 @@ use Rattle.std.proofs.Common.{◌∙◌, arith}
 use borrow.Author.Tests.{le-leb, lt-leb}
 use Rattle.base.specs.Choice.{pick}
 use Rattle.base.specs.Lists.{every, keep}
-use Rattle.meaning.specs.Numbers.{count_outside, second_near, no_room, not_aline, label_unknown, most_steps, longest_line}
+use Rattle.meaning.specs.Numbers.{count_outside, second_near, no_room, not_a_line, label_unknown, most_steps, longest_line}
 use Rattle.meaning.specs.Reader.{read, refused}
 use Rattle.meaning.specs.Sections.{is_near_root, Sheet, sheet}
 use Rattle.meaning.specs.Written.{steps_bytes}
@@ -39,23 +39,23 @@ sheet-refused s line n h = record { answer = λ out. rw h; output = λ out. rw h
 -- ---- bytes that are no line
 
 -- what is drawn is never refused by 13
-drawn_not_13 : (out : List ℕ) (ls : List (List ℕ)) (ds : List Drawn) (i : ℕ) → drawn_answer (with_room out (drawn_writing ls ds)) ≡ lined.Refused not_aline i → ⊥
+drawn_not_13 : (out : List ℕ) (ls : List (List ℕ)) (ds : List Drawn) (i : ℕ) → drawn_answer (with_room out (drawn_writing ls ds)) ≡ lined.Refused not_a_line i → ⊥
 unfolding drawn_answer with_room drawn_writing in_order pick lined_given refusal
 drawn_not_13 out ls ds i h = go (every (known_drawn ls) ds) (leb (length ss) most_steps) (leb (length (keep is_near_root ss)) 1) h
   where
     ss : List Step
     ss = map (numbered_step ls) ds
 
-    other : (n : ℕ) → (n ≡ not_aline → ⊥) → lined.Refused n 0 ≡ lined.Refused not_aline i → ⊥
+    other : (n : ℕ) → (n ≡ not_a_line → ⊥) → lined.Refused n 0 ≡ lined.Refused not_a_line i → ⊥
     other n apart e = apart (ap (λ x. (lined_given x).number) e)
 
-    room : (b : Bool) → drawn_answer (pick b (writes tt (steps_bytes ss)) (refuses no_room)) ≡ lined.Refused not_aline i → ⊥
+    room : (b : Bool) → drawn_answer (pick b (writes tt (steps_bytes ss)) (refuses no_room)) ≡ lined.Refused not_a_line i → ⊥
     room true e = let z : ◌≡◌ {A = ℕ} 0 1 = cc in omega arith
     room false e = other no_room (λ z. omega arith) e
 
     go : (known few lone : Bool)
         → (let near = pick lone (writes tt (steps_bytes ss)) (refuses second_near) in
-        drawn_answer (with_room out (pick known (pick few near (refuses count_outside)) (refuses label_unknown))) ≡ lined.Refused not_aline i)
+        drawn_answer (with_room out (pick known (pick few near (refuses count_outside)) (refuses label_unknown))) ≡ lined.Refused not_a_line i)
         → ⊥
     go true true true e = room (leb (length (steps_bytes ss)) (length out)) e
     go true true false e = other second_near (λ z. omega arith) e
@@ -64,18 +64,18 @@ drawn_not_13 out ls ds i h = go (every (known_drawn ls) ds) (leb (length ss) mos
 
 module _ (s left : List ℕ) (sh : Sheet) (was_read : sheet s ≡ read sh left) (line : List ℕ) where
   -- they are refused by 13, with their place
-  pub other_refused : (i : ℕ) → RefusedAt line i → LineRefused s line not_aline i
+  pub other_refused : (i : ℕ) → RefusedAt line i → LineRefused s line not_a_line i
   unfolding line_answer line_output line_then judged line_judged
   other_refused i h =
       let off = place-refused line i h in
       record { answer = λ out. rw (was_read, off); output = λ out. rw (was_read, off) }
 
   -- so the place that comes with 13 is where the bytes are refused
-  pub refused_other : (out : List ℕ) (i : ℕ) → line_answer out s line ≡ lined.Refused not_aline i → RefusedAt line i
+  pub refused_other : (out : List ℕ) (i : ℕ) → line_answer out s line ≡ lined.Refused not_a_line i → RefusedAt line i
   unfolding line_answer line_then judged line_judged
   refused_other out i h = refused-place line i (go (read_line line) (rw was_read at h))
     where
-      go : (r : LineRead) → line_judged r (lined.Refused not_aline) (λ ds. drawn_answer (with_room out (drawn_writing sh.labels ds))) ≡ lined.Refused not_aline i
+      go : (r : LineRead) → line_judged r (lined.Refused not_a_line) (λ ds. drawn_answer (with_room out (drawn_writing sh.labels ds))) ≡ lined.Refused not_a_line i
           → r ≡ off_at i
       go (off_at j) e = let same : j ≡ i = cc in ap off_at same
       go (draws ds) e = absurd (drawn_not_13 out sh.labels ds i e)

@@ -13,7 +13,7 @@ use Rattle.std.proofs.lemmas.List.{length-map}
 use Rattle.base.specs.Choice.{pick, pick_true, pick_false}
 use Rattle.base.specs.Lists.{every, keep}
 use Rattle.base.specs.declared.Cur.TheVariants.{At, No}
-use Rattle.meaning.specs.Numbers.{most_steps, count_outside, second_near, not_aline, label_unknown}
+use Rattle.meaning.specs.Numbers.{most_steps, count_outside, second_near, not_a_line, label_unknown}
 use Rattle.meaning.specs.Forest.{forest, steps_of}
 use Rattle.meaning.specs.Sections.{is_near_root}
 use Rattle.meaning.specs.Written.{steps_bytes, pattern_bytes}
@@ -48,7 +48,7 @@ pattern_said known p = in_order known (leb p.count most_steps) (leb (length (kee
 -- of a line, with these labels
 abbrev pub LineGives : List (List ℕ) → List ℕ → List ℕ → Lined → List ℕ → Type 0
 LineGives ls line out r now =
-    (r ≡ line_judged (read_line line) (lined.Refused not_aline) (λ ds. drawn_answer (with_room out (drawn_writing ls ds))))
+    (r ≡ line_judged (read_line line) (lined.Refused not_a_line) (λ ds. drawn_answer (with_room out (drawn_writing ls ds))))
     × (now ≡ line_judged (read_line line) (λ i. out) (λ ds. after out (with_room out (drawn_writing ls ds))))
 
 -- ---- what was found
@@ -143,7 +143,7 @@ module _ (known : Bool) (p : Pattern) where
 -- ---- the line, beside a sheet that was judged
 
 module _ (ls : List (List ℕ)) (line out : List ℕ) (f : Found) (found : FoundIs ls (read_line line) f) where
-  pub line_off : f.sound ≡ false → LineGives ls line out (lined.Refused not_aline f.place) out
+  pub line_off : f.sound ≡ false → LineGives ls line out (lined.Refused not_a_line f.place) out
   unfolding line_judged
   line_off e = rw (found_off ls (read_line line) f found e) (refl, refl)
 

@@ -45,8 +45,8 @@ unfoldable pub a_over_b : List Node
 a_over_b = node 0 a ∷ node 1 b ∷ []
 
 -- a over b over c
-unfoldable pub a_over_bover_c : List Node
-a_over_bover_c = node 0 a ∷ node 1 b ∷ node 2 c ∷ []
+unfoldable pub a_over_b_over_c : List Node
+a_over_b_over_c = node 0 a ∷ node 1 b ∷ node 2 c ∷ []
 
 unfoldable pub satisfied : List Bool
 satisfied =
@@ -57,9 +57,9 @@ satisfied =
     -- /a[/b][/*]: two child steps may use one node
     ∷ satisfies a_over_b (slash a (beside (slash b none) (slash star none)))
     -- /a/c: near is a child
-    ∷ satisfies a_over_bover_c (slash a (slash c none))
+    ∷ satisfies a_over_b_over_c (slash a (slash c none))
     -- /a//c: far is any depth
-    ∷ satisfies a_over_bover_c (slash a (slashes c none))
+    ∷ satisfies a_over_b_over_c (slash a (slashes c none))
     -- a pattern without steps is satisfied by every document
     ∷ satisfies only_a none
     ∷ []
@@ -375,5 +375,5 @@ expected = record {
 
 pub told_apart : answers ≡ expected
 unfolding
-    answers expected satisfied covered merges expected_merges measured sized sizes numbers sheet_a node_a rounds settled tries wants until_wanted untils sheet_b table_a asks asked_givens asked_given merges_into leaves writings outputs givens refusal gives by_number tabled_given node only_a a_over_b a_over_bover_c sheet_r slash slashes beside a b c star ascii pick some every keep total without numbers_from go_on ◌>>=◌ ◌>>◌ give repeat unless byte bytes number end number_of axis_of is_near size children_in forest parent_in is_child is_below_in is_below reaches same_label label labels up_from path_after may_hang is_near_root near_root a_step steps pattern sheet node_parent a_node nodes document entry table any_or_same parents_of label_in fits_below hold_below satisfies is_none starred_leaf may_lie finds fits_at lays covers alone joined branch_size laid_on stays_beside nothing offer common_label body_of meet meet_at across through merge_within merge no_entry entry_at entry_steps steps_together entries_from pair covers_other ascends pairs_of pairs_below join_at covering settle_at settle_times settle saves better best_of best_pair cut largest cut_largest merge_or_cut round rounds_from build is_member has_member entries_of one_that_covers each_in_one is_peopled is_within fair delivery_set plain_route members_of tried_for tried wanted members_say answer_comes until_yes tried_until_wanted judged fair_table three_judged is_subscription subscription sheet_number document_number table_number labels_of is_label label_number matches_answer wanted_answer with_room after merge_writing merge_answer steps_from steps_of axis_number step_bytes pattern_bytes flat_map
+    answers expected satisfied covered merges expected_merges measured sized sizes numbers sheet_a node_a rounds settled tries wants until_wanted untils sheet_b table_a asks asked_givens asked_given merges_into leaves writings outputs givens refusal gives by_number tabled_given node only_a a_over_b a_over_b_over_c sheet_r slash slashes beside a b c star ascii pick some every keep total without numbers_from go_on ◌>>=◌ ◌>>◌ give repeat unless byte bytes number end number_of axis_of is_near size children_in forest parent_in is_child is_below_in is_below reaches same_label label labels up_from path_after may_hang is_near_root near_root a_step steps pattern sheet node_parent a_node nodes document entry table any_or_same parents_of label_in fits_below hold_below satisfies is_none starred_leaf may_lie finds fits_at lays covers alone joined branch_size laid_on stays_beside nothing offer common_label body_of meet meet_at across through merge_within merge no_entry entry_at entry_steps steps_together entries_from pair covers_other ascends pairs_of pairs_below join_at covering settle_at settle_times settle saves better best_of best_pair cut largest cut_largest merge_or_cut round rounds_from build is_member has_member entries_of one_that_covers each_in_one is_peopled is_within fair delivery_set plain_route members_of tried_for tried wanted members_say answer_comes until_yes tried_until_wanted judged fair_table three_judged is_subscription subscription sheet_number document_number table_number labels_of is_label label_number matches_answer wanted_answer with_room after merge_writing merge_answer steps_from steps_of axis_number step_bytes pattern_bytes flat_map
 told_apart = refl

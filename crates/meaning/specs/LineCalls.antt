@@ -2,7 +2,7 @@
 use Rattle.std.specs.Prelude.{ℕ, suc, Bool, true, List, [], ◌∷◌, map, leb, length}
 use Rattle.base.specs.Choice.{pick}
 use Rattle.base.specs.Lists.{some, every, keep}
-use Rattle.meaning.specs.Numbers.{count_outside, second_near, not_there, not_aline, label_unknown, not_writable, most_steps}
+use Rattle.meaning.specs.Numbers.{count_outside, second_near, not_there, not_a_line, label_unknown, not_writable, most_steps}
 use Rattle.meaning.specs.Reader.{Reader, ◌>>=◌, ◌>>◌, give, end}
 use Rattle.meaning.specs.Forest.{axis_number, Forest, steps_of}
 use Rattle.meaning.specs.Sections.{same_label, is_near_root, pattern, sheet}
@@ -67,7 +67,7 @@ module _ {B : Type 0} where
   unfoldable pub line_then : (ℕ → ℕ → B) → (Writing (Unit {0}) → B) → List ℕ → List ℕ → B
   line_then refuse next s line =
       judged (sheet s) (λ n. refuse n 0) (λ sh.
-      line_judged (read_line line) (refuse not_aline) (λ ds.
+      line_judged (read_line line) (refuse not_a_line) (λ ds.
       next (drawn_writing sh.labels ds)))
 
 unfoldable pub drawn_answer : Writing (Unit {0}) → Lined

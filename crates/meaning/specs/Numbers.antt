@@ -54,8 +54,8 @@ abbrev pub not_fair : ℕ
 not_fair = 12
 
 -- the line is not in the notation or has more than 1,024 bytes; comes with the place
-abbrev pub not_aline : ℕ
-not_aline = 13
+abbrev pub not_a_line : ℕ
+not_a_line = 13
 
 -- a label of the line is not the sheet's
 abbrev pub label_unknown : ℕ

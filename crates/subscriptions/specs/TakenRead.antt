@@ -6,7 +6,7 @@ use Rattle.std.proofs.Math.ListN.{length, get_or}
 use Rattle.std.proofs.Math.Seq.{length_front, take_at}
 use borrow.Author.Tests.{ltb-true, leb-true, le-leb, le-ltb}
 use Rattle.base.specs.Choice.{pick}
-use Rattle.base.specs.Standing.{place_after, length-standing, get_d_standing, run_at}
+use Rattle.base.specs.Standing.{place_after, length-standing, get_or-standing, run_at}
 use Rattle.base.specs.declared.Cur.TheVariants.{At}
 use Rattle.meaning.specs.Numbers.{count_outside, most_steps, most_patterns}
 use Rattle.meaning.specs.Reader.{read}
@@ -101,9 +101,9 @@ module _ (s : List ℕ) (sh : Sheet) (left : List ℕ) (h : sheet s ≡ read sh 
       ap (λ (t : Sheet). length t.patterns) sheet_is ∙ length-standing (forest_at s) (after_pattern s) start n in
       let few : n ≤ most_patterns = leb-true n most_patterns stand.few in
       let there : get_or (subscriptions_of s).places i 0 ≡ place_after (after_pattern s) start i =
-      get_d_standing itself (after_pattern s) start most_patterns i 0 (omega arith) in
+      get_or-standing itself (after_pattern s) start most_patterns i 0 (omega arith) in
       let which : get_or sh.patterns i none ≡ forest_at s (place_after (after_pattern s) start i) =
-      ap (λ (t : Sheet). get_or t.patterns i none) sheet_is ∙ get_d_standing (forest_at s) (after_pattern s) start n i none (omega arith) in
+      ap (λ (t : Sheet). get_or t.patterns i none) sheet_is ∙ get_or-standing (forest_at s) (after_pattern s) start n i none (omega arith) in
       let each = pattern_section s (get_or s 0 0) in
       let was = run_at (each_place each) (after_pattern s) (λ j x. (each x).leads) n 0 start _ i stand.all_read (omega arith) in
       rw (there, which) (taken-sound s (get_or s 0 0) (place_after (after_pattern s) start i) was.0 was.1)

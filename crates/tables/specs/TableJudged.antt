@@ -6,7 +6,7 @@ use borrow.Author.Tests.{leb-true}
 use Rattle.std.proofs.Math.ListN.{get_or}
 use Rattle.base.specs.Choice.{pick}
 use Rattle.base.specs.Loops.{run}
-use Rattle.base.specs.Standing.{place_after, length-standing, get_d_standing, run_at}
+use Rattle.base.specs.Standing.{place_after, length-standing, get_or-standing, run_at}
 use Rattle.base.specs.declared.Cur.TheVariants.{At}
 use Rattle.meaning.specs.Numbers.{count_outside, most_entries}
 use Rattle.meaning.specs.Forest.{Forest}
@@ -58,8 +58,8 @@ module _ (s t : List ℕ) (y : ℕ) (h : table_place s t ≡ At y) where
       let n = get_or t 0 0 in
       let few : n ≤ most_entries = leb-true n most_entries all_read.few in
       let x = place_after (after_entry t) 1 i in
-      let there : get_or (table_entries t).places i 0 ≡ x = get_d_standing itself (after_entry t) 1 most_entries i 0 (omega arith) in
-      let which : get_or (table_at t) i d ≡ entry_in t x = get_d_standing (entry_in t) (after_entry t) 1 n i d b in
+      let there : get_or (table_entries t).places i 0 ≡ x = get_or-standing itself (after_entry t) 1 most_entries i 0 (omega arith) in
+      let which : get_or (table_at t) i d ≡ entry_in t x = get_or-standing (entry_in t) (after_entry t) 1 n i d b in
       let each = entry_section t (get_or s 0 0) in
       let was = run_at (each_place each) (after_entry t) (λ j z. (each z).leads) n 0 1 _ i all_read.all_read b in
       let r = taken-sound t (get_or s 0 0) (x + 8) was.0 (passed (leb 8 (length t - x)) _ 1 was.0 was.1).1 in
