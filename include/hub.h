@@ -1,7 +1,7 @@
 /* The hub's calls for C: is a sheet sound, which sheds get the notice of a document, and does at least one get it.
  *
- * `rt staticlib hub_c` writes the library, target/staticlib/libhub_c.a, for x86-64 Linux. Every call is proved to give
- * what is said here for any bytes at all: none of them needs to be checked first.
+ * `./archive hub_c` writes the library, crates/hub_c/out/libhub_c.a, for x86-64 Linux. Every call is proved to give what
+ * is said here for any bytes at all: none of them needs to be checked first.
  *
  *     uint8_t sheet[HUB_SHEET_MOST], table[HUB_TABLE_MOST], document[HUB_DOCUMENT_MOST];
  *     size_t s = ..., t = ..., d = ...;                        // how many bytes were read into each
