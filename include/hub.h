@@ -1,7 +1,7 @@
 /* The hub's calls for C: is a sheet sound, which sheds get the notice of a document, and does at least one get it.
  *
- * `rt staticlib hub_c` writes the library, target/staticlib/libhub_c.a, for x86-64 Linux. Every call is proved to give
- * what is said here for any bytes at all: none of them needs to be checked first.
+ * `./archive hub_c` writes the library, crates/hub_c/out/libhub_c.a, for x86-64 Linux. Every call is proved to give what
+ * is said here for any bytes at all: none of them needs to be checked first.
  *
  *     uint8_t sheet[HUB_SHEET_MOST], table[HUB_TABLE_MOST], document[HUB_DOCUMENT_MOST];
  *     size_t s = ..., t = ..., d = ...;                        // how many bytes were read into each
@@ -19,7 +19,7 @@
  * bytes stay as they are during the call. They are only read, and nothing is kept after the call, so calls may be made
  * from several threads at once.
  *
- * Nothing is allocated. A call takes stack: hub_sheet_check under 1 KB, hub_plain_route under 4 KB, hub_table_route
+ * Nothing is allocated. A call takes stack: hub_sheet_check under 1 KB, hub_plain_route under 5 KB, hub_table_route
  * and hub_wanted under 13 KB. These are measured on the deepest inputs, not proved; `bench/run` prints them.
  */
 #ifndef HUB_H
