@@ -19,7 +19,7 @@
  * bytes stay as they are during the call. They are only read, and nothing is kept after the call, so calls may be made
  * from several threads at once.
  *
- * Nothing is allocated. A call takes stack: hub_sheet_check under 1 KB, hub_plain_route under 5 KB, hub_table_route
+ * Nothing is allocated. A call takes stack: hub_sheet_check under 1 KB, hub_plain_route under 4 KB, hub_table_route
  * and hub_wanted under 13 KB. These are measured on the deepest inputs, not proved; `bench/run` prints them.
  */
 #ifndef HUB_H

@@ -24,6 +24,13 @@ const FEW_NODES: usize = 64;
 
 const SOME_NODES: usize = 256;
 
+// A word for each node, and one for the top.
+const FEW_WORDS: usize = FEW_NODES + 1;
+
+const SOME_WORDS: usize = SOME_NODES + 1;
+
+const MOST_WORDS: usize = MOST_NODES + 1;
+
 // The parent of the node at a place: two bytes, the low byte first.
 fn two_bytes(d: &[u8], a: usize) -> usize
     requires { a + 1 < length d.now }
@@ -73,6 +80,26 @@ fn fill(
     }
 }
 
+// The top's word, by an array of N words. It is never put into its caller's frame, so a call takes the stack of one array.
+#[inline(never)]
+fn word_by<const N: usize>(
+    d: &[u8],
+    at: usize,
+    n: usize,
+    children: &[u16; MOST_STEPS + 1],
+    labels: &[u16; MOST_STEPS],
+    cares: &[u16; MOST_STEPS],
+    own: &[u16; MOST_STEPS],
+    far: u16,
+) -> u16
+    requires { (n < N) × (N ≤ most_nodes + 1) × (at + 3 * n ≤ length d.now) × Rising (parents_of (nodes_at d.now at n)) }
+    ensures { TopWord (masks_lent children.now labels.now cares.now own.now far) d.now at n result }
+{
+    let mut words = [0u16; N];
+    fill(&mut words, d, at, n, children, labels, cares, own, far);
+    words[0]
+}
+
 // The top's word when all nodes have had their turn. The masks are fields of one struct, so they are lent for one
 // lifetime.
 fn word_at_top<'a>(
@@ -89,18 +116,12 @@ fn word_at_top<'a>(
     ensures { TopWord (masks_lent children.now labels.now cares.now own.now far) d.now at n result }
 {
     if n <= FEW_NODES {
-        let mut words: [u16; FEW_NODES + 1] = [0; FEW_NODES + 1];
-        fill(&mut words, d, at, n, children, labels, cares, own, far);
-        return words[0];
+        return word_by::<FEW_WORDS>(d, at, n, children, labels, cares, own, far);
     }
     if n <= SOME_NODES {
-        let mut words: [u16; SOME_NODES + 1] = [0; SOME_NODES + 1];
-        fill(&mut words, d, at, n, children, labels, cares, own, far);
-        return words[0];
+        return word_by::<SOME_WORDS>(d, at, n, children, labels, cares, own, far);
     }
-    let mut words: [u16; MOST_NODES + 1] = [0; MOST_NODES + 1];
-    fill(&mut words, d, at, n, children, labels, cares, own, far);
-    words[0]
+    word_by::<MOST_WORDS>(d, at, n, children, labels, cares, own, far)
 }
 
 // Does the document whose n nodes stand in the bytes from a place on satisfy the pattern?
