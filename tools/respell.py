@@ -19,8 +19,8 @@ DECLARED = re.compile(r"\s*(?:(?:abbrev|unfoldable|data|record|ruleset|pub) )*([
 # functions of the library that lemmas are named for
 LIBRARY = {'length', 'append', 'drop', 'take', 'map', 'set', 'sets', 'get_or', 'eqb', 'cons', 'sum', 'add', 'mul', 'concat',
            'flat_map', 'div'}
-# what port.py wrote of `getD-map`
-WRITTEN = {'get_d_map': 'get_or-map'}
+# what port.py wrote of `getD-map`; the library has a `get_or-map`
+WRITTEN = {'get_d_map': 'get_or-map_there'}
 # words that join others and name nothing by themselves, whatever a field or a constructor is called
 PLAIN = {'a', 'all', 'an', 'and', 'any', 'are', 'as', 'at', 'both', 'by', 'each', 'few', 'for', 'from', 'in', 'is', 'later', 'more',
          'no', 'none', 'not', 'of', 'off', 'on', 'one', 'or', 'other', 'over', 'so', 'than', 'the', 'then', 'there', 'to',
@@ -100,7 +100,7 @@ def renamings():
         taken.setdefault(new.get(token, token), []).append(token)
     for name, olds in sorted(taken.items()):
         for old in olds if len(olds) > 1 else []:
-            if '-' in old:  # a lemma that would have its function's name
+            if '-' in old and old not in theirs:  # a lemma that would have its function's name
                 new[old] = name + '_lem'
     return new
 

@@ -47,10 +47,10 @@ module _ {A : Type 0} where
 
 module _ {A B : Type 0} (f : A → B) where
   -- what a map holds at a place
-  pub get_or-map : (l : List A) (i : ℕ) (d : A) (e : B) → i < length l → get_or (map f l) i e ≡ f (get_or l i d)
-  get_or-map [] i d e h = absurd (omega arith)
-  get_or-map (x ∷ xs) zero d e h = refl
-  get_or-map (x ∷ xs) (suc i) d e h = get_or-map xs i d e (omega arith)
+  pub get_or-map_there : (l : List A) (i : ℕ) (d : A) (e : B) → i < length l → get_or (map f l) i e ≡ f (get_or l i d)
+  get_or-map_there [] i d e h = absurd (omega arith)
+  get_or-map_there (x ∷ xs) zero d e h = refl
+  get_or-map_there (x ∷ xs) (suc i) d e h = get_or-map_there xs i d e (omega arith)
 
   -- a replacement under a map
   pub map-set : (l : List A) (i : ℕ) (a : A) → map f (set l i a) ≡ set (map f l) i (f a)

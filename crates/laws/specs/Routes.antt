@@ -15,7 +15,7 @@ use Rattle.base.specs.Lists.{some}
 use Rattle.base.specs.ListLaws.{some_of, keep-gives}
 use Rattle.meaning.specs.Numbers.{not_fair}
 use Rattle.meaning.specs.Reader.{read}
-use Rattle.base.specs.Mapping.{get_or-map}
+use Rattle.base.specs.Mapping.{get_or-map_there}
 use Rattle.meaning.specs.Forest.{Forest, none}
 use Rattle.meaning.specs.Sections.{Sheet, Node, Entry, table}
 use Rattle.meaning.specs.Satisfying.{satisfies, parents_of}
@@ -107,7 +107,7 @@ delivered-bit ns ps i = (λ h. to h (true_or_false (ltb i (length ps))), λ (the
     bit = member_delivery (map (satisfies ns) ps) i
 
     said : ltb i (length ps) ≡ true → is_member (delivery_set (map (satisfies ns) ps)) i ≡ satisfies ns (get_or ps i none)
-    said there = bit ∙ get_or-map (satisfies ns) ps i none false (ltb-true i (length ps) there)
+    said there = bit ∙ get_or-map_there (satisfies ns) ps i none false (ltb-true i (length ps) there)
 
     past : ltb i (length ps) ≡ false → is_member (delivery_set (map (satisfies ns) ps)) i ≡ false
     past e = bit ∙ get_or-eq_default (map (satisfies ns) ps) false (omega (arith, length-map ps (satisfies ns), ltb-false i (length ps) e))

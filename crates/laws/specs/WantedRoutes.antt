@@ -11,7 +11,7 @@ use Rattle.std.proofs.Math.ListN.{length, length-map, length-append}
 use Rattle.base.specs.Bools.{and_first, and_second, and_both, both_ways}
 use Rattle.base.specs.Choice.{pick}
 use Rattle.base.specs.Lists.{some, total, numbers_from}
-use Rattle.base.specs.Mapping.{get_or-map}
+use Rattle.base.specs.Mapping.{get_or-map_there}
 use Rattle.base.specs.ListLaws.{some-gives, some_of, some-append, keep-gives, keep_of, numbers_from-gives, numbers_from_of}
 use Rattle.meaning.specs.Forest.{Forest, none}
 use Rattle.meaning.specs.Sections.{Node, Entry}
@@ -148,10 +148,10 @@ module _ (ns : List Node) (ps : List Forest) where
       there : (j : ℕ) × (j < length (map (satisfies ns) ps)) × (get_or (map (satisfies ns) ps) j false ≡ true) → (i : ℕ) × (i < length ps) × (own i ≡ true)
       there (j, long, k) =
           let l : j < length ps = omega (arith, length-map ps (satisfies ns)) in
-          (j, l, sym (get_or-map (satisfies ns) ps j none false l) ∙ k)
+          (j, l, sym (get_or-map_there (satisfies ns) ps j none false l) ∙ k)
 
       here : (i : ℕ) → i < length ps → own i ≡ true → not (eqb (delivery_set (map (satisfies ns) ps)) 0) ≡ true
-      here i l h = set_not_0 (map (satisfies ns) ps) ∙ any_of (map (satisfies ns) ps) i (get_or-map (satisfies ns) ps i none false l ∙ h)
+      here i l h = set_not_0 (map (satisfies ns) ps) ∙ any_of (map (satisfies ns) ps) i (get_or-map_there (satisfies ns) ps i none false l ∙ h)
 
   -- ---- how many are tried
 

@@ -4,7 +4,7 @@ use Rattle.std.proofs.Math.Path.{sym, ap}
 use Rattle.std.proofs.Common.{◌∙◌, arith}
 use Rattle.std.proofs.Math.ListN.{length-map}
 use Rattle.std.proofs.Math.Seq.{length-take-le, get_or-take}
-use Rattle.base.specs.Mapping.{get_or-map}
+use Rattle.base.specs.Mapping.{get_or-map_there}
 use Rattle.base.specs.Replacing.{place_in}
 use Rattle.meaning.specs.Building.{entry_at, entry_steps}
 use Rattle.shapes.specs.Shapes.{WellFormed, entry_of, entries_in, table_of, WellFormedTable}
@@ -40,7 +40,7 @@ module _ (t : Table) (sound : WellFormedTable t) where
     -- what stands at a place
     pub entry_at_lem : entry_at (table_of t) i ≡ entry_of (get_or t.entries i d)
     unfolding entry_at table_of
-    entry_at_lem = get_or-map entry_of (entries_in t) i d _ (omega (arith, length-entries)) ∙ ap entry_of entry_held
+    entry_at_lem = get_or-map_there entry_of (entries_in t) i d _ (omega (arith, length-entries)) ∙ ap entry_of entry_held
 
     -- its pattern is well formed
     pub entry-sound : WellFormed (get_or t.entries i d).pattern
