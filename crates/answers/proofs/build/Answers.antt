@@ -10,8 +10,7 @@ build_first-requires c = sheet-stands _ _ (sym c.sheet.ensures ∙ c.in-At.is)
 
 pub returns-in-At : goal.returns-in-At
 returns-in-At c =
-    let x = c in
-    build-same _ _ _ (build-said _ _ _ (sym x.sheet.ensures ∙ x.in-At.is)) _ _ c.build_first.ensures
+    build-same _ _ _ (build-said _ _ _ (sym c.sheet.ensures ∙ c.in-At.is)) _ _ c.build_first.ensures
 
 pub returns-in-No : goal.returns-in-No
 returns-in-No c = build-refuses _ _ _ (build-refused _ _ _ (sym c.sheet.ensures ∙ c.in-No.is))

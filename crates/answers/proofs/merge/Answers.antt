@@ -10,8 +10,7 @@ merge_numbered-requires c = sheet-stands _ _ (sym c.sheet.ensures ∙ c.in-At.is
 
 pub returns-in-At : goal.returns-in-At
 returns-in-At c =
-    let x = c in
-    merge-same _ _ _ (merge-said _ _ _ _ (sym x.sheet.ensures ∙ x.in-At.is)) _ _ c.merge_numbered.ensures
+    merge-same _ _ _ (merge-said _ _ _ _ (sym c.sheet.ensures ∙ c.in-At.is)) _ _ c.merge_numbered.ensures
 
 pub returns-in-No : goal.returns-in-No
 returns-in-No c = merge-refuses _ _ _ (merge-refused _ _ _ _ (sym c.sheet.ensures ∙ c.in-No.is))

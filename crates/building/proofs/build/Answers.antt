@@ -1,4 +1,3 @@
--- `build` meets its contract. The rounds made so far and what is left of the build give the whole; the measure is the steps that are left.
 use mathlib.Core.Path.{◌∙◌, ap}
 use native.Mathlib.Omega.{arith}
 use Rattle.meaning.specs.Building.{steps_together}

@@ -1,4 +1,3 @@
--- `fairness::all_fit` meets its contract: what is left from entry j on gives what all entries give.
 use native.Mathlib.Omega.{arith}
 use Rattle.fairness.specs.Each.{fitting_starts, entry-fits, entry_doesn't_fit, fitting-ends}
 use Rattle.fairness.proofs.all_fit.Goals as goal

@@ -1,4 +1,3 @@
--- `fairness::all_stand` meets its contract: what is left from subscription i on gives what all give.
 use native.Mathlib.Omega.{arith}
 use Rattle.subscriptions.specs.Subscribed.{pattern-here}
 use Rattle.fairness.specs.Each.{standing_starts, subscription-stands, subscription_doesn't, standing-ends}

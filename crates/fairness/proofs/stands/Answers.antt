@@ -1,4 +1,3 @@
--- `fairness::stands` meets its contract: what is left from entry j on gives what all entries give.
 use native.Mathlib.Omega.{arith}
 use Rattle.meaning.specs.Building.{no_entry}
 use Rattle.fairness.specs.Weighing.{weighing_starts, weighing_goes_on, weighing_ends}

@@ -1,4 +1,3 @@
--- `fairness::take_members` meets its contract: the first entries' members are there, entry by entry.
 use mathlib.Core.Path.{◌≡◌}
 use native.Mathlib.Omega.{arith}
 use Rattle.fairness.specs.EntryMembers.{no_members, one_more}

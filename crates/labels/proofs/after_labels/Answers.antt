@@ -1,5 +1,3 @@
--- `labels::after_labels` meets its contract.
--- The invariant: what is left from here gives what all gives from the start; the measure: what is left.
 use Rattle.base.specs.Standing.{place-goes_on, place-ends}
 use native.Mathlib.Nat.{sub-zero}
 use native.Mathlib.Omega.{arith}

@@ -1,5 +1,3 @@
--- `labels::labels` meets its contract.
--- The invariant: i labels are read, and the next one stands at x; the measure: what is left.
 use Rattle.places.specs.ReadingLoop.{reads_on, reads-fault, all_read}
 use Rattle.labels.specs.LabelSection.{labels_section}
 use native.Mathlib.Omega.{arith}

@@ -1,5 +1,3 @@
--- `labels::number_of` meets its contract.
--- The invariant: what is left from here gives what all gives from the start; the measure: what is left.
 use Rattle.labels.specs.LabelPlaces.{texts_at, labels_in}
 use Rattle.labels.specs.LabelNumbered.{number-hits, number-goes_on, number-ends}
 use native.Mathlib.Nat.{sub-zero}

@@ -1,5 +1,3 @@
--- `labels::occurs` meets its contract.
--- The invariant: what is left from here gives what all gives from the start; the measure: what is left.
 use Rattle.base.specs.Standing.{some-hits, some-goes_on, some-ends}
 use Rattle.labels.specs.LabelPlaces.{texts_at}
 use native.Mathlib.Nat.{sub-zero}

@@ -1,5 +1,3 @@
--- `labels::same_label` meets its contract.
--- The invariant: the bytes that are left decide; the measure: how many are left.
 use mathlib.Core.Path.{refl}
 use Rattle.labels.specs.LabelLoops.{unequal_lengths, bytes_differ, bytes_agree, bytes-end}
 use native.Mathlib.Omega.{arith}

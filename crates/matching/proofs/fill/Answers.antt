@@ -1,4 +1,3 @@
--- `matching::fill` meets its contract: what is left, when the nodes above u have had their turns, gives what all give; u falls by one.
 use Prim.Native.Nat.{◌+◌, ◌*◌, ◌-◌}
 use mathlib.Core.Path.{◌≡◌, refl}
 use native.Mathlib.Omega.{arith}

@@ -1,4 +1,3 @@
--- `members::put_members` meets its contract. In turn k the bytes from the k-th on are left to store.
 use Prim.Native.Nat.{◌%◌}
 use native.Mathlib.Omega.{arith}
 use mathlib.Core.Path.{refl, ◌∙◌}

@@ -1,4 +1,3 @@
--- `offering::copied` meets its contract: after each turn the steps stand there that were passed, and the block is what `children_of` reads.
 use mathlib.Core.Path.{refl}
 use native.Mathlib.Omega.{arith}
 use Rattle.shapes.specs.Steps.{step_in, parent-low}

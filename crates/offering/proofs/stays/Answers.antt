@@ -1,4 +1,3 @@
--- `offering::stays` meets its contract: after each turn the branches are left that were passed and stay.
 use native.Mathlib.Omega.{arith}
 use Rattle.shapes.specs.Shapes.{no_steps-stand}
 use Rattle.shapes.specs.Steps.{step_in}

@@ -1,4 +1,3 @@
--- `packing::pack` meets its contract: after each turn the bytes of the steps that were passed are written.
 use mathlib.Core.Path.{◌≡◌, refl}
 use native.Mathlib.Omega.{arith}
 use lib.ListN.{replicate}

@@ -1,4 +1,3 @@
--- `packing::unpack` meets its contract: after each turn the steps that were passed are held.
 use mathlib.Core.Path.{refl}
 use native.Mathlib.Omega.{arith}
 use Rattle.shapes.specs.Shapes.{no_steps-stand}

@@ -1,4 +1,3 @@
--- `printing::put_members` meets its contract. The loop: the members still to come, put from here, give what all give.
 use mathlib.Core.Path.{refl}
 use native.Mathlib.Omega.{arith}
 use Rattle.texts.specs.PutText.{left-first, left-goes_on, left-stays, left_none, left-same, put_is}

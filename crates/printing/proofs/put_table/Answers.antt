@@ -1,5 +1,3 @@
--- `printing::put_table` meets its contract. The totals; then the loop: what is left of the entries, put from here, gives what
--- all of them give.
 use mathlib.Core.Path.{◌∙◌}
 use native.Mathlib.Omega.{arith}
 use Rattle.shapes.specs.TableValues.{entry-sound}

@@ -16,18 +16,15 @@ bounds-subscriptions-i c =
 
 pub ask-requires : goal.ask-requires
 ask-requires c =
-    let start = c in
-    let stand = subscriptions_stand _ _ start.requires.0 c.subscriptions_in-subscriptions.ensures in
-    ((stand.taken start.args.i (omega arith)).1, start.requires.1)
+    let stand = subscriptions_stand _ _ c.requires.0 c.subscriptions_in-subscriptions.ensures in
+    ((stand.taken c.args.i (omega arith)).1, c.requires.1)
 
 pub returns-then-i-count : goal.returns-then-i-count
 returns-then-i-count c =
-    let start = c in
-    let stand = subscriptions_stand _ _ start.requires.0 c.subscriptions_in-subscriptions.ensures in
-    answer_there _ stand start.args.i (omega arith) c.ask.ensures
+    let stand = subscriptions_stand _ _ c.requires.0 c.subscriptions_in-subscriptions.ensures in
+    answer_there _ stand c.args.i (omega arith) c.ask.ensures
 
 pub returns : goal.returns
 returns c =
-    let start = c in
-    let stand = subscriptions_stand _ _ start.requires.0 c.subscriptions_in-subscriptions.ensures in
-    answer-not_there _ stand start.args.i (omega arith)
+    let stand = subscriptions_stand _ _ c.requires.0 c.subscriptions_in-subscriptions.ensures in
+    answer-not_there _ stand c.args.i (omega arith)

@@ -1,4 +1,3 @@
--- `routing::deliver` meets its contract: the set is that of the first i subscriptions.
 use native.Mathlib.Omega.{arith}
 use Rattle.subscriptions.specs.Subscribed.{subscriptions_stand}
 use Rattle.routing.specs.Plain.{delivery_starts, delivery_goes_on, delivery_ends}
@@ -9,8 +8,7 @@ loop-i-init c = delivery_starts (subscriptions_stand _ _ c.requires.0 c.subscrip
 
 pub ask-requires : goal.ask-requires
 ask-requires c =
-    let l = c in
-    ((l.loop-i.invariant.stand.taken l.loop-i.i (omega arith)).1, l.requires.1)
+    ((c.loop-i.invariant.stand.taken c.loop-i.i (omega arith)).1, c.requires.1)
 
 pub loop-i-preserved : goal.loop-i-preserved
 loop-i-preserved c = delivery_goes_on c.loop-i.invariant (omega arith) c.ask.ensures c.mark-set.ensures

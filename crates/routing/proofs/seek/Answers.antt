@@ -6,15 +6,13 @@ use Rattle.routing.proofs.seek.Goals as goal
 
 pub seek_entries-asked-requires : goal.seek_entries-asked-requires
 seek_entries-asked-requires c =
-    let x = c in
-    let judged = sym x.sheet_table_and_document.ensures ∙ x.in-At.is in
+    let judged = sym c.sheet_table_and_document.ensures ∙ c.in-At.is in
     three_stand _ _ _ judged c.subscriptions_in-subscriptions.ensures c.entries_in-entries.ensures
     c.node_place.ensures.0 c.node_count.ensures.0
 
 pub returns-in-At : goal.returns-in-At
 returns-in-At c =
-    let x = c in
-    let judged = sym x.sheet_table_and_document.ensures ∙ x.in-At.is in
+    let judged = sym c.sheet_table_and_document.ensures ∙ c.in-At.is in
     sought_told _ _ _ judged c.node_place.ensures.0 c.node_count.ensures.0
     c.seek_entries-asked.ensures
 

@@ -6,14 +6,12 @@ use Rattle.routing.proofs.subscription_matches.Goals as goal
 
 pub ask_numbered-requires : goal.ask_numbered-requires
 ask_numbered-requires c =
-    let x = c in
-    let judged = sym x.sheet_and_document.ensures ∙ x.in-At.is in
+    let judged = sym c.sheet_and_document.ensures ∙ c.in-At.is in
     sheet-document-stand _ _ _ _ _ judged c.node_place.ensures.0 c.node_count.ensures.0
 
 pub returns-in-At : goal.returns-in-At
 returns-in-At c =
-    let x = c in
-    let judged = sym x.sheet_and_document.ensures ∙ x.in-At.is in
+    let judged = sym c.sheet_and_document.ensures ∙ c.in-At.is in
     match_answered _ _ judged c.node_place.ensures.0 c.node_count.ensures.0 _ c.ask_numbered.ensures
 
 pub returns-in-No : goal.returns-in-No

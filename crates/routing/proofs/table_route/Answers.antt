@@ -6,15 +6,13 @@ use Rattle.routing.proofs.table_route.Goals as goal
 
 pub ask_entries-route-requires : goal.ask_entries-route-requires
 ask_entries-route-requires c =
-    let x = c in
-    let judged = sym x.sheet_table_and_document.ensures ∙ x.in-At.is in
+    let judged = sym c.sheet_table_and_document.ensures ∙ c.in-At.is in
     three_stand _ _ _ judged c.subscriptions_in-subscriptions.ensures c.entries_in-entries.ensures
     c.node_place.ensures.0 c.node_count.ensures.0
 
 pub returns-in-At : goal.returns-in-At
 returns-in-At c =
-    let x = c in
-    let judged = sym x.sheet_table_and_document.ensures ∙ x.in-At.is in
+    let judged = sym c.sheet_table_and_document.ensures ∙ c.in-At.is in
     table-delivered _ _ _ judged c.node_place.ensures.0 c.node_count.ensures.0
     c.ask_entries-route.ensures
 

@@ -1,4 +1,3 @@
--- `first_covered` meets its contract: the search from the place reached gives what the whole search gives.
 use mathlib.Core.Path.{◌≡◌, refl, sym, ◌∙◌}
 use mathlib.Core.Bool.{false}
 use native.Mathlib.Omega.{arith}

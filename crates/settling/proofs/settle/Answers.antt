@@ -1,4 +1,3 @@
--- `settle` meets its contract. The pairs passed are clear; each turn removes an entry or passes a row, so the measure falls.
 use native.Mathlib.Omega.{arith}
 use Rattle.shapes.specs.Shapes.{table_of}
 use Rattle.shapes.specs.TableValues.{no_entry_value, length-table, entry-sound}

@@ -1,4 +1,3 @@
--- `shapes::steps_together` meets its contract: the steps of the entries passed are added up.
 use native.Mathlib.Omega.{arith}
 use Rattle.shapes.specs.TableValues.{no_entry_value, entry-sound}
 use Rattle.shapes.specs.Summing.{sum_starts, sum-goes_on, sum-ends}

@@ -7,11 +7,10 @@ use Rattle.spelling.specs.TextSays.{bytes-said, bytes-refused}
 use Rattle.spelling.proofs.write_given.Goals as goal
 
 pub write_line-requires : goal.write_line-requires
-write_line-requires c =
-    let judged = c in (
-      judged.requires,
-      rw c.pattern_at.ensures (only_taken _ _ _ (sym judged.only_pattern.ensures ∙ c.in-At.is)).1,
-    )
+write_line-requires c = (
+  c.requires,
+  rw c.pattern_at.ensures (only_taken _ _ _ (sym c.only_pattern.ensures ∙ c.in-At.is)).1,
+)
 
 pub returns-in-At : goal.returns-in-At
 returns-in-At c =

@@ -1,5 +1,3 @@
--- `subscriptions::pattern_places` meets its contract.
--- The invariant: what is filled is what stands there, and x is where the next one stands; the measure: what is left.
 use Rattle.subscriptions.specs.Taken.{itself, pattern_places}
 use native.Mathlib.Omega.{arith}
 use lib.ListN.{length-set}

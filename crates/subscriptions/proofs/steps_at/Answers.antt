@@ -1,5 +1,3 @@
--- `subscriptions::steps_at` meets its contract.
--- The invariant: what is filled is what stands there, x is where the next one stands, and behind it all is empty; the measure: what is left.
 use Rattle.reading.specs.SheetPlaces.{after_step, steps_at}
 use Rattle.shapes.specs.Shapes.{no_steps}
 use Rattle.subscriptions.specs.Taken.{steps_filled}

@@ -1,5 +1,3 @@
--- `tables::entries_from` meets its contract.
--- The invariant: i entries are read, and the next one stands at x; the measure: what is left.
 use Rattle.places.specs.ReadingLoop.{reads_on, reads-fault, all_read}
 use native.Mathlib.Omega.{arith}
 use Rattle.tables.proofs.entries_from.Goals as goal

@@ -1,4 +1,3 @@
--- `texts::put_bytes` meets its contract. The loop: what is left of the text, put from here, gives what all of it gives from the start.
 use native.Mathlib.Omega.{arith}
 use lib.ListN.{get_or, drop_of_length-le}
 use Rattle.texts.specs.PutText.{left-first, left-goes_on, left_none, left-same, put_one}

@@ -1,4 +1,3 @@
--- `writing::put_pattern` meets its contract. In turn k the steps from k on are left to store.
 use mathlib.Core.Path.{refl, ◌∙◌}
 use native.Mathlib.Omega.{arith}
 use native.Mathlib.Numerals.{add-one}

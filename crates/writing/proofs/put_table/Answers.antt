@@ -1,4 +1,3 @@
--- `writing::put_table` meets its contract. In turn i the entries from i on are left to store.
 use mathlib.Core.Path.{refl, ap, ◌∙◌}
 use native.Mathlib.Omega.{arith}
 use borrow.Author.Rules.{rules}

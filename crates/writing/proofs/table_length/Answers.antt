@@ -1,4 +1,3 @@
--- `writing::table_length` meets its contract. In turn i the length and that of the entries from i on are the table's.
 use native.Mathlib.Omega.{arith}
 use Rattle.shapes.specs.TableValues.{no_entry_value, entry-sound}
 use Rattle.writing.specs.BytesWritten.{measuring_starts, measuring_goes_on, measuring_ends}

@@ -8,16 +8,14 @@ first_entries-requires c = subscriptions_stand _ _ c.requires c.subscriptions_in
 
 pub returns-then-write_table : goal.returns-then-write_table
 returns-then-write_table c =
-    let w = c in
-    let b = w.build-made in
-    let first = w.first_entries in
+    let b = c.build-made in
+    let first = c.first_entries in
     build-same _ _ _ (build_is _ _ _ b.result first.ensures.0 b.ensures.0 b.ensures.1) _ _
-    (build-written _ _ _ _ w.write_table.ensures.0 _ w.write_table.ensures.1 c.if-write_table.true _ c.table_length.ensures.0)
+    (build-written _ _ _ _ c.write_table.ensures.0 _ c.write_table.ensures.1 c.if-write_table.true _ c.table_length.ensures.0)
 
 pub returns : goal.returns
 returns c =
-    let w = c in
-    let b = w.build-made in
-    let first = w.first_entries in
+    let b = c.build-made in
+    let first = c.first_entries in
     build-same _ _ _ (build_is _ _ _ b.result first.ensures.0 b.ensures.0 b.ensures.1) _ _
-    (build-no_room _ _ _ _ w.write_table.ensures.0 _ w.write_table.ensures.1 c.if-write_table.false)
+    (build-no_room _ _ _ _ c.write_table.ensures.0 _ c.write_table.ensures.1 c.if-write_table.false)

@@ -1,4 +1,3 @@
--- `answers::built::first_entries` meets its contract: so far there is one entry for each of the first subscriptions.
 use mathlib.Core.Path.{refl}
 use native.Mathlib.Omega.{arith}
 use borrow.Author.Rules.{rules}
@@ -11,29 +10,22 @@ loop-i-init c = first_none _ _ refl (search rules)
 
 pub numbered-p-requires : goal.numbered-p-requires
 numbered-p-requires c =
-    let start = c in
-    (start.requires, omega arith)
+    (c.requires, omega arith)
 
 pub alone-requires : goal.alone-requires
 alone-requires c = omega (arith, c.requires.few)
 
 pub with_entry-t-requires : goal.with_entry-t-requires
 with_entry-t-requires c =
-    let l = c in
-    let start = l in
-    (l.loop-i.invariant.sound, omega (arith, start.requires.few, l.loop-i.invariant.counted), c.numbered-p.ensures.1)
+    (c.loop-i.invariant.sound, omega (arith, c.requires.few, c.loop-i.invariant.counted), c.numbered-p.ensures.1)
 
 pub loop-i-preserved : goal.loop-i-preserved
 unfolding subscription
 loop-i-preserved c =
-    let l = c in
-    let start = l in
     let w = c.with_entry-t in
-    first_more _ l.loop-i.i l.loop-i.t w.result _ (omega (arith, start.requires.counted)) l.loop-i.invariant
+    first_more _ c.loop-i.i c.loop-i.t w.result _ (omega (arith, c.requires.counted)) c.loop-i.invariant
     w.ensures.0 w.ensures.1 w.ensures.2 c.alone.ensures c.numbered-p.ensures.0
 
 pub returns : goal.returns
 returns c =
-    let l = c in
-    let start = l in
-    (first_all _ l.loop-i.i _ (omega (arith, start.requires.counted)) l.loop-i.invariant, l.loop-i.invariant.sound)
+    (first_all _ c.loop-i.i _ (omega (arith, c.requires.counted)) c.loop-i.invariant, c.loop-i.invariant.sound)

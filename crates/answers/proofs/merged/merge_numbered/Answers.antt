@@ -7,31 +7,25 @@ use Rattle.answers.proofs.merged.merge_numbered.Goals as goal
 
 pub returns-then-count-i : goal.returns-then-count-i
 returns-then-count-i c =
-    let start = c in
-    let stand = subscriptions_stand _ _ start.requires c.subscriptions_in-v.ensures in
+    let stand = subscriptions_stand _ _ c.requires c.subscriptions_in-v.ensures in
     merge-refuses _ _ _ (merge-not_there _ _ _ (first-not_there stand _ _ (omega arith)))
 
 pub returns-then-count-j : goal.returns-then-count-j
 returns-then-count-j c =
-    let start = c in
-    let stand = subscriptions_stand _ _ start.requires c.subscriptions_in-v.ensures in
+    let stand = subscriptions_stand _ _ c.requires c.subscriptions_in-v.ensures in
     merge-refuses _ _ _ (merge-not_there _ _ _ (second-not_there stand _ _ (omega arith)))
 
 pub numbered-p-requires : goal.numbered-p-requires
 numbered-p-requires c =
-    let start = c in
-    (subscriptions_stand _ _ start.requires c.subscriptions_in-v.ensures, omega arith)
+    (subscriptions_stand _ _ c.requires c.subscriptions_in-v.ensures, omega arith)
 
 pub numbered-q-requires : goal.numbered-q-requires
 numbered-q-requires c =
-    let start = c in
-    (subscriptions_stand _ _ start.requires c.subscriptions_in-v.ensures, omega arith)
+    (subscriptions_stand _ _ c.requires c.subscriptions_in-v.ensures, omega arith)
 
 pub returns : goal.returns
 returns c =
-    let m = c in
-    let start = m in
-    let stand = subscriptions_stand _ _ start.requires m.subscriptions_in-v.ensures in
-    let is = merge_is _ _ _ _ _ _ (both_there_lem stand start.args.i start.args.j (omega arith) (omega arith))
-    m.numbered-p.ensures.0 m.numbered-q.ensures.0 m.merge.ensures in
+    let stand = subscriptions_stand _ _ c.requires c.subscriptions_in-v.ensures in
+    let is = merge_is _ _ _ _ _ _ (both_there_lem stand c.args.i c.args.j (omega arith) (omega arith))
+    c.numbered-p.ensures.0 c.numbered-q.ensures.0 c.merge.ensures in
     merge-same _ _ _ is _ _ c.write_merge.ensures

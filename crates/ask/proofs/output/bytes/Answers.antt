@@ -1,4 +1,3 @@
--- Every byte has its two places in the line: i is at most 65,535, and the line keeps its length. The measure is what is left.
 use lib.ListN.{length-set}
 use native.Mathlib.Omega.{arith}
 use borrow.Author.Tests.{ltb-true}

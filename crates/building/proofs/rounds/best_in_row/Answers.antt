@@ -1,4 +1,3 @@
--- `best_in_row` meets its contract: the pairs of the row that are left give what the whole row gives.
 use Prim.Native.Nat.{◌<◌}
 use native.Mathlib.Omega.{arith}
 use Rattle.shapes.specs.TableValues.{no_entry_value, entry-sound}

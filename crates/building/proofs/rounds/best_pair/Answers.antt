@@ -1,4 +1,3 @@
--- `best_pair` meets its contract: the rows that are left give what all rows give.
 use native.Mathlib.Omega.{arith}
 use Rattle.building.specs.Rows.{rows_start, rows_go_on, rows_end}
 use Rattle.building.proofs.rounds.best_pair.Goals as goal

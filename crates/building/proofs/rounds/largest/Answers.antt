@@ -1,4 +1,3 @@
--- `largest` meets its contract: the entries that are left give what all give.
 use Prim.Native.Nat.{◌<◌}
 use native.Mathlib.Omega.{arith}
 use Rattle.building.specs.Largest.{largest_starts, larger, not_larger, largest-ends}

@@ -1,5 +1,3 @@
--- `labels::written::writable` meets its contract.
--- The invariant: the bytes that are left decide; the measure: how many are left.
 use mathlib.Core.Path.{refl, sym, ap, ◌∙◌}
 use mathlib.Core.Bool.{not}
 use native.Mathlib.Omega.{arith}

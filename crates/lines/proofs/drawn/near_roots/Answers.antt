@@ -1,4 +1,3 @@
--- `lines::drawn::near_roots` meets its contract. The loop: those counted and those still to come are all.
 use mathlib.Core.Path.{sym, ◌∙◌}
 use native.Mathlib.Omega.{arith}
 use Rattle.shapes.specs.Steps.{step_in}

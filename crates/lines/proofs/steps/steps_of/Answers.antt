@@ -1,5 +1,3 @@
--- `lines::steps::steps_of` meets its contract.
--- The invariant: how far the line has been read is a stand of the definition; the measure: the bytes that are left.
 use mathlib.Core.Path.{◌≡◌, refl, ap, subst}
 use lib.ListN.{length, get_or}
 use lib.Seq.{set_out}

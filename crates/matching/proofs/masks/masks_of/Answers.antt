@@ -1,4 +1,3 @@
--- `matching::masks::masks_of` meets its contract: in turn k the masks are those of the first k steps.
 use Prim.Native.Nat.{◌*◌, ◌%◌, ◌^◌, ◌<◌}
 use mathlib.Core.Path.{◌≡◌, sym, ◌∙◌}
 use native.Mathlib.Omega.{arith}
@@ -15,19 +14,19 @@ loop-k-init c = (omega arith, masks_start (steps_in _))
 
 pub offset_bounds-m-q : goal.offset_bounds-m-q
 unfolding step_in
-offset_bounds-m-q c = let l = c in omega (arith, parent-low _ l.requires l.loop-k.k (omega arith))
+offset_bounds-m-q c = omega (arith, parent-low _ c.requires c.loop-k.k (omega arith))
 
 pub bounds-m-q : goal.bounds-m-q
 unfolding step_in
-bounds-m-q c = let l = c in omega (arith, parent-low _ l.requires l.loop-k.k (omega arith))
+bounds-m-q c = omega (arith, parent-low _ c.requires c.loop-k.k (omega arith))
 
 pub offset_bounds-m-q-in-loop-k : goal.offset_bounds-m-q-in-loop-k
 unfolding step_in
-offset_bounds-m-q-in-loop-k c = let l = c in omega (arith, parent-low _ l.requires l.loop-k.k (omega arith))
+offset_bounds-m-q-in-loop-k c = omega (arith, parent-low _ c.requires c.loop-k.k (omega arith))
 
 pub bounds-m-q-in-loop-k : goal.bounds-m-q-in-loop-k
 unfolding step_in
-bounds-m-q-in-loop-k c = let l = c in omega (arith, parent-low _ l.requires l.loop-k.k (omega arith))
+bounds-m-q-in-loop-k c = omega (arith, parent-low _ c.requires c.loop-k.k (omega arith))
 
 pub loop-k-preserved : goal.loop-k-preserved
 unfolding step_in

@@ -1,4 +1,3 @@
--- `matching::turn::given` meets its contract: what is left from place k on gives what all sixteen give.
 use mathlib.Core.Path.{◌≡◌, refl}
 use native.Mathlib.Omega.{arith}
 use Rattle.base.specs.Along.{fold_n-goes_on, fold_n-ends}

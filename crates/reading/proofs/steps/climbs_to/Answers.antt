@@ -1,5 +1,3 @@
--- `reading::steps::climbs_to` meets its contract.
--- The invariant: where the climb stands; the measure: the turns that are left.
 use Rattle.reading.specs.ClimbingLoop.{climb_meets, climb_tops, climb_goes_on, climb_ends}
 use native.Mathlib.Omega.{arith}
 use Rattle.reading.proofs.steps.climbs_to.Goals as goal

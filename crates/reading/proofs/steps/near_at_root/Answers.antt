@@ -1,5 +1,3 @@
--- `reading::steps::near_at_root` meets its contract.
--- The invariant: what is left from here gives what all gives from the start; the measure: what is left.
 use mathlib.Core.Path.{refl}
 use Rattle.base.specs.Standing.{some-hits, some-goes_on, some-ends}
 use native.Mathlib.Nat.{sub-zero}

@@ -1,5 +1,3 @@
--- `reading::steps::steps` meets its contract.
--- The invariant: k steps are read, and the next one stands at x; the measure: what is left.
 use Rattle.places.specs.ReadingLoop.{reads_on, reads-fault, all_read}
 use native.Mathlib.Omega.{arith}
 use Rattle.reading.proofs.steps.steps.Goals as goal

@@ -1,4 +1,3 @@
--- `routing::by_table::ask_entries` meets its contract: what is left from entry j on gives the whole route.
 use native.Mathlib.Omega.{arith}
 use Rattle.tables.specs.TableJudged.{entry_here}
 use Rattle.routing.specs.Tabling.{start, entries-start, entries-go_on, entries-end}
@@ -10,17 +9,15 @@ loop-j-init c = entries-start
 
 pub ask_entry-so_far-requires : goal.ask_entry-so_far-requires
 ask_entry-so_far-requires c =
-    let l = c in
-    let pre = l.requires in
-    let here = entry_here _ _ pre.1 l.loop-j.j _ (omega arith) c.entry_at-e.ensures in
+    let pre = c.requires in
+    let here = entry_here _ _ pre.1 c.loop-j.j _ (omega arith) c.entry_at-e.ensures in
     (pre.0, pre.2, here.1, omega (arith, pre.1.few))
 
 pub loop-j-preserved : goal.loop-j-preserved
 loop-j-preserved c =
-    let l = c in
-    let pre = l.requires in
-    let here = entry_here _ _ pre.1 l.loop-j.j _ (omega arith) c.entry_at-e.ensures in
-    entries-go_on l.loop-j.invariant (omega (arith, pre.1.counted)) (omega (arith, pre.0.few, pre.0.counted))
+    let pre = c.requires in
+    let here = entry_here _ _ pre.1 c.loop-j.j _ (omega arith) c.entry_at-e.ensures in
+    entries-go_on c.loop-j.invariant (omega (arith, pre.1.counted)) (omega (arith, pre.0.few, pre.0.counted))
     here.0 c.ask_entry-so_far.ensures
 
 pub returns : goal.returns

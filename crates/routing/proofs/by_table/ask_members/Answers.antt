@@ -1,4 +1,3 @@
--- `routing::by_table::ask_members` meets its contract: what is left from subscription i on gives what all give.
 use mathlib.Core.Path.{ap}
 use native.Mathlib.Omega.{arith}
 use Rattle.meaning.specs.Satisfying.{satisfies}
@@ -10,16 +9,14 @@ loop-i-init c = members-start
 
 pub ask_member-so_far-requires : goal.ask_member-so_far-requires
 ask_member-so_far-requires c =
-    let l = c in
-    let pre = l.requires in
-    (omega (arith, pre.0.few), (pre.0.taken l.loop-i.i (omega arith)).1, pre.1, omega (arith, pre.0.few))
+    let pre = c.requires in
+    (omega (arith, pre.0.few), (pre.0.taken c.loop-i.i (omega arith)).1, pre.1, omega (arith, pre.0.few))
 
 pub loop-i-preserved : goal.loop-i-preserved
 loop-i-preserved c =
-    let l = c in
-    let stand = l.requires.0 in
-    let here = (stand.taken l.loop-i.i (omega arith)).0 in
-    members-go_on l.loop-i.invariant (omega (arith, stand.counted)) (ap (satisfies _) here) c.ask_member-so_far.ensures
+    let stand = c.requires.0 in
+    let here = (stand.taken c.loop-i.i (omega arith)).0 in
+    members-go_on c.loop-i.invariant (omega (arith, stand.counted)) (ap (satisfies _) here) c.ask_member-so_far.ensures
 
 pub returns : goal.returns
 returns c = members-end c.loop-i.invariant (omega (arith, c.requires.0.counted))

@@ -1,4 +1,3 @@
--- `routing::wanting::seek_entries` meets its contract: asking from entry j on gives what asking all gives.
 use native.Mathlib.Omega.{arith}
 use Rattle.tables.specs.TableJudged.{entry_here}
 use Rattle.routing.specs.Wanting.{seeking_entries_starts, seeking_entries-stops, seeking_entries-goes_on, seeking_entries-ends, all_asked}
@@ -9,24 +8,21 @@ loop-j-init c = seeking_entries_starts
 
 pub seek_entry-asked-requires : goal.seek_entry-asked-requires
 seek_entry-asked-requires c =
-    let l = c in
-    let pre = l.requires in
-    let here = entry_here _ _ pre.1 l.loop-j.j _ (omega arith) c.entry_at-e.ensures in
-    (pre.0, pre.2, here.1, omega (arith, pre.1.few, l.loop-j.invariant.few))
+    let pre = c.requires in
+    let here = entry_here _ _ pre.1 c.loop-j.j _ (omega arith) c.entry_at-e.ensures in
+    (pre.0, pre.2, here.1, omega (arith, pre.1.few, c.loop-j.invariant.few))
 
 pub returns-then-asked : goal.returns-then-asked
 returns-then-asked c =
-    let l = c in
-    let pre = l.requires in
-    let here = entry_here _ _ pre.1 l.loop-j.j _ (omega arith) c.entry_at-e.ensures in
-    all_asked _ _ _ (seeking_entries-stops l.loop-j.invariant (omega (arith, pre.1.counted)) here.0 c.seek_entry-asked.ensures c.if-asked.true)
+    let pre = c.requires in
+    let here = entry_here _ _ pre.1 c.loop-j.j _ (omega arith) c.entry_at-e.ensures in
+    all_asked _ _ _ (seeking_entries-stops c.loop-j.invariant (omega (arith, pre.1.counted)) here.0 c.seek_entry-asked.ensures c.if-asked.true)
 
 pub loop-j-preserved : goal.loop-j-preserved
 loop-j-preserved c =
-    let l = c in
-    let pre = l.requires in
-    let here = entry_here _ _ pre.1 l.loop-j.j _ (omega arith) c.entry_at-e.ensures in
-    seeking_entries-goes_on l.loop-j.invariant (omega (arith, pre.1.counted)) here.0 c.seek_entry-asked.ensures
+    let pre = c.requires in
+    let here = entry_here _ _ pre.1 c.loop-j.j _ (omega arith) c.entry_at-e.ensures in
+    seeking_entries-goes_on c.loop-j.invariant (omega (arith, pre.1.counted)) here.0 c.seek_entry-asked.ensures
     (omega (arith, pre.0.few, pre.0.counted)) c.if-asked.false
 
 pub returns : goal.returns

@@ -1,4 +1,3 @@
--- `remove` meets its contract: the entries after j are moved down, up to the place reached.
 use Prim.Native.Nat.{◌-◌}
 use mathlib.Core.Path.{◌≡◌, refl}
 use native.Mathlib.Omega.{arith}

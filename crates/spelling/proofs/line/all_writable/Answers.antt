@@ -1,5 +1,3 @@
--- `spelling::line::all_writable` meets its contract.
--- The invariant: the steps that are left decide; the measure: how many are left.
 use native.Mathlib.Omega.{arith}
 use Rattle.shapes.specs.Steps.{step_in}
 use Rattle.reading.specs.SheetPlaces.{sheet_at}
@@ -20,4 +18,4 @@ loop-k-preserved c =
     steps-go_on c.requires c.loop-k.invariant (omega arith) c.label_at.ensures c.writable.ensures (rw c.if-not-writable.false)
 
 pub returns : goal.returns
-returns c = let l = c in steps-done l.requires l.loop-k.invariant (omega arith)
+returns c = steps-done c.requires c.loop-k.invariant (omega arith)

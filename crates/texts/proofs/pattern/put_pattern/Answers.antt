@@ -4,9 +4,9 @@ use Rattle.texts.specs.BranchTexts.{dot-text, pattern_text_lem}
 use Rattle.texts.proofs.pattern.put_pattern.Goals as goal
 
 pub returns-then-p-eq0 : goal.returns-then-p-eq0
-returns-then-p-eq0 c = let s = c in
-    put_is _ (dot-text _ s.args.p c.if-p-eq0.true) c.put_bytes.ensures
+returns-then-p-eq0 c =
+    put_is _ (dot-text _ c.args.p c.if-p-eq0.true) c.put_bytes.ensures
 
 pub returns : goal.returns
-returns c = let s = c in
-    put_is _ (pattern_text_lem _ s.args.p s.requires c.if-p-eq0.false) c.put_below.ensures
+returns c =
+    put_is _ (pattern_text_lem _ c.args.p c.requires c.if-p-eq0.false) c.put_below.ensures

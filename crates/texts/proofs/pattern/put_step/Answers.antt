@@ -5,6 +5,5 @@ use Rattle.texts.proofs.pattern.put_step.Goals as goal
 
 pub returns : goal.returns
 unfolding step_text
-returns c = let l = c in
-    let a = l in
-    put_then _ _ _ a.put_axis-next.ensures l.put_label.ensures
+returns c =
+    put_then _ _ _ c.put_axis-next.ensures c.put_label.ensures

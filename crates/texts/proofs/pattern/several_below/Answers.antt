@@ -1,4 +1,3 @@
--- `texts::pattern::several_below` meets its contract. The loop: the branches counted and those still to come are all.
 use native.Mathlib.Omega.{arith}
 use Rattle.laws.specs.Children.{children_of}
 use Rattle.shapes.specs.Steps.{step_in}

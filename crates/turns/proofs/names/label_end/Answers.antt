@@ -1,5 +1,3 @@
--- `turns::names::label_end` meets its contract.
--- The invariant: from here the end is as far as from the start; the measure: what is left.
 use mathlib.Core.Path.{refl, sym, ◌∙◌}
 use native.Mathlib.Omega.{arith}
 use borrow.Author.Rules.{rules}
