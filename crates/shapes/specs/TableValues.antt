@@ -33,7 +33,7 @@ module _ (t : Table) (sound : WellFormedTable t) where
 
   module _ (i : ℕ) (d : Entry) (h : i < t.count) where
     -- each stands where it stands in the array
-    entry_held : get_or (entries_in t) i d ≡ get_or t.entries i d
+    pub entry_held : get_or (entries_in t) i d ≡ get_or t.entries i d
     unfolding entries_in
     entry_held = get_or-take t.count t.entries i d h
 

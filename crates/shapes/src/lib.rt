@@ -3,7 +3,7 @@
 
 ghost use Rattle.std.specs.Prelude.{◌≡◌, ◌≤◌};
 ghost use Rattle.meaning.specs.Building.{steps_together};
-ghost use Rattle.shapes.specs.Shapes.{no_steps, table_of, WellFormedTable};
+ghost use Rattle.shapes.specs.Shapes.{steps_in, entries_in, no_steps, table_of, WellFormed, WellFormedTable};
 
 use meaning::{MOST_ENTRIES, MOST_STEPS, Step};
 
@@ -12,6 +12,16 @@ use meaning::{MOST_ENTRIES, MOST_STEPS, Step};
 pub struct Pattern {
     pub count: usize,
     pub steps: [Step; MOST_STEPS],
+}
+
+impl Pattern {
+    // The steps that are there.
+    pub fn steps(&self) -> &[Step]
+        requires { WellFormed self.now }
+        ensures { result.now ≡ steps_in self.now }
+    {
+        &self.steps[..self.count]
+    }
 }
 
 // An entry: bit i of the members is subscription i.
@@ -26,6 +36,16 @@ pub struct Entry {
 pub struct Table {
     pub count: usize,
     pub entries: [Entry; MOST_ENTRIES],
+}
+
+impl Table {
+    // The entries that are there.
+    pub fn entries(&self) -> &[Entry]
+        requires { WellFormedTable self.now }
+        ensures { result.now ≡ entries_in self.now }
+    {
+        &self.entries[..self.count]
+    }
 }
 
 // The pattern without steps.
@@ -48,12 +68,8 @@ pub fn steps_together(t: Table) -> usize
     ensures { (result ≡ steps_together (table_of t)) × (result ≤ 1024) }
 {
     let mut n = 0;
-    let mut i = 0;
-    while i < t.count {
-        let e = t.entries[i];
-        let p = e.pattern;
-        n += p.count;
-        i += 1;
+    for e in t.entries() {
+        n += e.pattern.count;
     }
     n
 }

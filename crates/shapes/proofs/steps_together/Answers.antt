@@ -1,22 +1,29 @@
-use native.Mathlib.Omega.{arith}
-use Rattle.shapes.specs.TableValues.{no_entry_value, entry-sound}
+use Rattle.std.proofs.Common.{arith}
+use Rattle.shapes.specs.TableValues.{no_entry_value, length-entries, entry_held, entry-sound}
 use Rattle.shapes.specs.Summing.{sum_starts, sum-goes_on, sum-ends}
 use Rattle.shapes.proofs.steps_together.Goals as goal
 
-pub loop-i-init : goal.loop-i-init
-loop-i-init c = sum_starts c.args.t
+pub loop-e-init : goal.loop-e-init
+loop-e-init c = sum_starts c.args.t
 
 pub overflow_add-n : goal.overflow_add-n
 overflow_add-n c =
-    let l = c.loop-i in
-    omega (arith, (entry-sound c.args.t c.requires l.i no_entry_value (omega arith)).few)
+    let t = c.args.t in
+    let i = c.loop-e.e-index in
+    let there = rw (c.entries-e-items.ensures, length-entries t c.requires) at c.loop-e-test.true in
+    rw (c.entries-e-items.ensures, entry_held t c.requires i no_entry_value there)
+        (omega (arith, (entry-sound t c.requires i no_entry_value there).few, c.loop-e.invariant.few, c.requires.few))
 
-pub loop-i-preserved : goal.loop-i-preserved
-loop-i-preserved c =
-    let l = c.loop-i in
-    sum-goes_on c.args.t l.i l.n c.requires (omega arith) l.invariant
+pub loop-e-preserved : goal.loop-e-preserved
+loop-e-preserved c =
+    let t = c.args.t in
+    let l = c.loop-e in
+    let there = rw (c.entries-e-items.ensures, length-entries t c.requires) at c.loop-e-test.true in
+    rw (c.entries-e-items.ensures, entry_held t c.requires l.e-index no_entry_value there)
+        (sum-goes_on t l.e-index l.n c.requires there l.invariant)
 
 pub returns : goal.returns
 returns c =
-    let l = c.loop-i in
-    (sum-ends c.args.t l.i l.n c.requires (omega arith) l.invariant, omega arith)
+    let l = c.loop-e in
+    let none_left = rw (c.entries-e-items.ensures, length-entries c.args.t c.requires) at c.loop-e-test.false in
+    (sum-ends c.args.t l.e-index l.n c.requires (omega arith) l.invariant, omega (arith, l.invariant.few, l.invariant.reached, c.requires.few))
