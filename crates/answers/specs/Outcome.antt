@@ -2,7 +2,6 @@
 use Rattle.std.specs.Prelude.{ℕ, ◌≡◌, Bool, true, false, List, leb, length}
 use Rattle.std.proofs.Common.{ap, ap₂, ◌∙◌}
 use Rattle.base.specs.Choice.{pick}
-use Rattle.meaning.specs.Numbers.{not_there, no_room}
 use Rattle.meaning.specs.Forest.{Forest}
 use Rattle.meaning.specs.Sections.{Sheet, Entry}
 use Rattle.meaning.specs.Merging.{merge}
@@ -22,6 +21,7 @@ use Rattle.building.specs.declared.Made.{Made}
 use Rattle.writing.specs.OutputAfter.{written_over}
 use Rattle.writing.specs.Gives.{Gives, gives-refusal, gives_same, gives-written, gives-no_room}
 use Rattle.answers.specs.Says.{both_there, marked_says, merge_says, table_says, build_says}
+use Rattle.meaning.specs.declared.Refusal.TheVariants.{NotThere, NoRoom}
 
 -- ---- the merge of two subscriptions
 
@@ -43,7 +43,7 @@ module _ (out : List ℕ) where
     merge-written t n long = rw long (gives-written merge_answer out clipped (pattern_bytes p) room said now over t)
 
     -- where there is none it is refused with 10
-    pub merge-no_room : room ≡ false → Gives merge_answer out (marked_says p clipped) (merged.Refused no_room) now
+    pub merge-no_room : room ≡ false → Gives merge_answer out (marked_says p clipped) (merged.Refused NoRoom) now
     unfolding marked_says merge_answer
     merge-no_room = gives-no_room merge_answer out clipped (pattern_bytes p) room said now over
 
@@ -54,7 +54,7 @@ unfolding merge_says pick
 merge_is sh i j p q m there e f is = rw (there, ← e, ← f, is.pattern, is.mark)
 
 -- where a number is not there it is refused with 11
-pub merge-not_there : (sh : Sheet) (i j : ℕ) → both_there sh i j ≡ false → refuses not_there ≡ merge_says sh i j
+pub merge-not_there : (sh : Sheet) (i j : ℕ) → both_there sh i j ≡ false → refuses NotThere ≡ merge_says sh i j
 unfolding merge_says pick
 merge-not_there sh i j there = rw there
 
@@ -78,7 +78,7 @@ module _ (out : List ℕ) where
     build-written t n long = rw long (gives-written build_answer out rounds (table_bytes es) room said now over t)
 
     -- where there is none it is refused with 10
-    pub build-no_room : room ≡ false → Gives build_answer out (writes rounds (table_bytes es)) (built.Refused no_room) now
+    pub build-no_room : room ≡ false → Gives build_answer out (writes rounds (table_bytes es)) (built.Refused NoRoom) now
     unfolding build_answer
     build-no_room = gives-no_room build_answer out rounds (table_bytes es) room said now over
 

@@ -7,7 +7,6 @@ use borrow.Author.Tests.{lt-ltb, le-ltb}
 use Rattle.base.specs.Bools.{and_both}
 use Rattle.base.specs.Choice.{pick, pick_true, pick_false}
 use Rattle.base.specs.declared.Cur.TheVariants.{At, No}
-use Rattle.meaning.specs.Numbers.{not_there}
 use Rattle.meaning.specs.Forest.{Forest}
 use Rattle.meaning.specs.Sections.{Sheet}
 use Rattle.meaning.specs.Covering.{covers}
@@ -24,6 +23,7 @@ use Rattle.reading.specs.SheetSection.{sheet_place}
 use Rattle.reading.specs.SheetJudged.{sheet-said, sheet-refused}
 use Rattle.subscriptions.specs.declared.Subscriptions.{Subscriptions}
 use Rattle.subscriptions.specs.Subscribed.{SubscriptionsStand}
+use Rattle.meaning.specs.declared.Refusal.TheVariants.{NotThere}
 
 -- both numbers are those of subscriptions
 unfoldable pub both_there : Sheet → ℕ → ℕ → Bool
@@ -31,7 +31,7 @@ both_there sh i j = is_subscription sh i && is_subscription sh j
 
 -- whether i covers j
 unfoldable pub covers_says : Sheet → ℕ → ℕ → Asked
-covers_says sh i j = pick (both_there sh i j) (asked.Said (covers (subscription sh i) (subscription sh j))) (asked.Refused not_there)
+covers_says sh i j = pick (both_there sh i j) (asked.Said (covers (subscription sh i) (subscription sh j))) (asked.Refused NotThere)
 
 -- a merge with its mark
 unfoldable pub marked_says : Forest → Bool → Writing Bool
@@ -42,7 +42,7 @@ unfoldable pub merge_says : Sheet → ℕ → ℕ → Writing Bool
 merge_says sh i j =
     pick (both_there sh i j)
     (marked_says (merge (subscription sh i) (subscription sh j)).pattern (merge (subscription sh i) (subscription sh j)).clipped)
-    (refuses not_there)
+    (refuses NotThere)
 
 -- a table with its rounds
 unfoldable pub table_says : Table → Writing ℕ
@@ -81,7 +81,7 @@ unfolding covers_says
 covers_there sh i j p q said there e f is = pick_true _ _ _ (both_there sh i j) there (ap asked.Said (is ∙ ap₂ covers e f))
 
 -- where one is not there, it is refused
-pub covers-not_there : (sh : Sheet) (i j : ℕ) → both_there sh i j ≡ false → asked.Refused not_there ≡ covers_says sh i j
+pub covers-not_there : (sh : Sheet) (i j : ℕ) → both_there sh i j ≡ false → asked.Refused NotThere ≡ covers_says sh i j
 unfolding covers_says
 covers-not_there sh i j there = pick_false _ _ _ (both_there sh i j) there refl
 

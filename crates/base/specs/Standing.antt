@@ -1,13 +1,11 @@
 -- What stands one after the other from a place on: each with the place that follows it. Loops that go along it.
 use Prim.Native.Nat.{ℕ, zero, suc, ◌+◌, ◌-◌, ◌<◌, ◌≤◌}
-use Rattle.std.specs.Prelude.{◌≡◌, Bool, true, false, length, get_or, take, set}
+use Rattle.std.specs.Prelude.{◌≡◌, Bool, true, false, length, get_or, take, set, Result, Ok, Err}
 use Rattle.std.proofs.Math.Path.{refl, sym, ap}
 use Rattle.std.proofs.Common.{◌∙◌, subst, arith, add-one, le_of_suc-le-suc, not-suc-le-zero, add-zero, take_all, take-suc-set}
 use mathlib.Core.List.{List, [], ◌∷◌, ◌++◌}
 use Rattle.base.specs.Lists.{some}
 use Rattle.base.specs.Loops.{and_then, run, split, none_left}
-use Rattle.base.specs.declared.Cur.{Cur}
-use Rattle.base.specs.declared.Cur.TheVariants.{At, No}
 
 -- the place after n things, where the one at p is followed by the one at `next p`
 unfoldable pub place_after : (ℕ → ℕ) → ℕ → ℕ → ℕ
@@ -20,39 +18,39 @@ place_after-last next p zero = refl
 place_after-last next p (suc n) = place_after-last next (next p) n
 
 -- a reading run goes from each thing to the one that follows it
-pub run-leads : (f : ℕ → ℕ → Cur) (next : ℕ → ℕ) → ((i x y : ℕ) → f i x ≡ At y → y ≡ next x) → (n i x y : ℕ) → run f n i x ≡ At y → y ≡ place_after next x n
+pub run-leads : {E : Type 0} (f : ℕ → ℕ → Result ℕ E) (next : ℕ → ℕ) → ((i x y : ℕ) → f i x ≡ Ok y → y ≡ next x) → (n i x y : ℕ) → run f n i x ≡ Ok y → y ≡ place_after next x n
 unfolding run and_then place_after
-run-leads f next leads zero i x y h = cc
-run-leads f next leads (suc n) i x y h = go (f i x) refl h (run-leads f next leads n (i + 1))
+run-leads {E = E} f next leads zero i x y h = cc
+run-leads {E = E} f next leads (suc n) i x y h = go (f i x) refl h (run-leads f next leads n (i + 1))
   where
-    go : (c : Cur) → f i x ≡ c → and_then c (λ z. run f n (i + 1) z) ≡ At y
-        → ((z w : ℕ) → run f n (i + 1) z ≡ At w → w ≡ place_after next z n) → y ≡ place_after next (next x) n
-    go (At z) e q later = later z y q ∙ ap (λ (w : ℕ). place_after next w n) (leads i x z e)
-    go (No m) e q later = let z : ◌≡◌ {A = ℕ} 0 1 = cc in absurd (omega arith)
+    go : (c : Result ℕ E) → f i x ≡ c → and_then c (λ z. run f n (i + 1) z) ≡ Ok y
+        → ((z w : ℕ) → run f n (i + 1) z ≡ Ok w → w ≡ place_after next z n) → y ≡ place_after next (next x) n
+    go (Ok z) e q later = later z y q ∙ ap (λ (w : ℕ). place_after next w n) (leads i x z e)
+    go (Err m) e q later = let z : ◌≡◌ {A = ℕ} 0 1 = cc in absurd (omega arith)
 
 -- what each reading keeps, the run keeps
-pub run_keeps : (f : ℕ → ℕ → Cur) (Good : ℕ → Type 0) → ((i x y : ℕ) → Good x → f i x ≡ At y → Good y) → (n i x y : ℕ) → Good x → run f n i x ≡ At y → Good y
+pub run_keeps : {E : Type 0} (f : ℕ → ℕ → Result ℕ E) (Good : ℕ → Type 0) → ((i x y : ℕ) → Good x → f i x ≡ Ok y → Good y) → (n i x y : ℕ) → Good x → run f n i x ≡ Ok y → Good y
 unfolding run and_then
-run_keeps f Good keeps zero i x y g h = let e : x ≡ y = cc in subst Good e g
-run_keeps f Good keeps (suc n) i x y g h = go (f i x) refl h (run_keeps f Good keeps n (i + 1))
+run_keeps {E = E} f Good keeps zero i x y g h = let e : x ≡ y = cc in subst Good e g
+run_keeps {E = E} f Good keeps (suc n) i x y g h = go (f i x) refl h (run_keeps f Good keeps n (i + 1))
   where
-    go : (c : Cur) → f i x ≡ c → and_then c (λ z. run f n (i + 1) z) ≡ At y → ((z w : ℕ) → Good z → run f n (i + 1) z ≡ At w → Good w) → Good y
-    go (At z) e q later = later z y (keeps i x z g e) q
-    go (No m) e q later = let z : ◌≡◌ {A = ℕ} 0 1 = cc in absurd (omega arith)
+    go : (c : Result ℕ E) → f i x ≡ c → and_then c (λ z. run f n (i + 1) z) ≡ Ok y → ((z w : ℕ) → Good z → run f n (i + 1) z ≡ Ok w → Good w) → Good y
+    go (Ok z) e q later = later z y (keeps i x z g e) q
+    go (Err m) e q later = let z : ◌≡◌ {A = ℕ} 0 1 = cc in absurd (omega arith)
 
 -- each thing of a run was read where it stands
-pub run_at : (f : ℕ → ℕ → Cur) (next : ℕ → ℕ) → ((i x y : ℕ) → f i x ≡ At y → y ≡ next x) → (n i x y j : ℕ) → run f n i x ≡ At y → j < n
-    → (z : ℕ) × (f (i + j) (place_after next x j) ≡ At z)
+pub run_at : {E : Type 0} (f : ℕ → ℕ → Result ℕ E) (next : ℕ → ℕ) → ((i x y : ℕ) → f i x ≡ Ok y → y ≡ next x) → (n i x y j : ℕ) → run f n i x ≡ Ok y → j < n
+    → (z : ℕ) × (f (i + j) (place_after next x j) ≡ Ok z)
 unfolding run and_then place_after
-run_at f next leads zero i x y j h l = absurd (not-suc-le-zero l)
-run_at f next leads (suc n) i x y j h l = go (f i x) refl h j l (run_at f next leads n (i + 1))
+run_at {E = E} f next leads zero i x y j h l = absurd (not-suc-le-zero l)
+run_at {E = E} f next leads (suc n) i x y j h l = go (f i x) refl h j l (run_at f next leads n (i + 1))
   where
-    go : (c : Cur) → f i x ≡ c → and_then c (λ z. run f n (i + 1) z) ≡ At y → (j : ℕ) → j < suc n
-        → ((z w k : ℕ) → run f n (i + 1) z ≡ At w → k < n → (v : ℕ) × (f (i + 1 + k) (place_after next z k) ≡ At v))
-        → (v : ℕ) × (f (i + j) (place_after next x j) ≡ At v)
-    go (No m) e q j l later = let z : ◌≡◌ {A = ℕ} 0 1 = cc in absurd (omega arith)
-    go (At z) e q zero l later = (z, rw (add-zero i) e)
-    go (At z) e q (suc k) l later =
+    go : (c : Result ℕ E) → f i x ≡ c → and_then c (λ z. run f n (i + 1) z) ≡ Ok y → (j : ℕ) → j < suc n
+        → ((z w k : ℕ) → run f n (i + 1) z ≡ Ok w → k < n → (v : ℕ) × (f (i + 1 + k) (place_after next z k) ≡ Ok v))
+        → (v : ℕ) × (f (i + j) (place_after next x j) ≡ Ok v)
+    go (Err m) e q j l later = let z : ◌≡◌ {A = ℕ} 0 1 = cc in absurd (omega arith)
+    go (Ok z) e q zero l later = (z, rw (add-zero i) e)
+    go (Ok z) e q (suc k) l later =
         let r = later z y k q (le_of_suc-le-suc l) in
         let n : i + 1 + k ≡ i + suc k = omega arith in
         (r.0, rw (← n, ← (leads i x z e)) r.1)

@@ -6,7 +6,7 @@ use Rattle.base.specs.Loops.{and_then}
 use Rattle.base.specs.Standing.{place_after}
 use Rattle.base.specs.declared.Cur.{Cur}
 use Rattle.base.specs.declared.Cur.TheVariants.{At}
-use Rattle.meaning.specs.Numbers.{count_outside, most_labels, most_nodes}
+use Rattle.meaning.specs.Numbers.{most_labels, most_nodes}
 use Rattle.meaning.specs.Sections.{Sheet, sheet, Document, document}
 use Rattle.meaning.specs.Satisfying.{parents_of}
 use Rattle.meaning.specs.Calls.{judged, document_number}
@@ -22,6 +22,7 @@ use Rattle.reading.specs.SheetPlaces.{sheet_at}
 use Rattle.reading.specs.SheetSection.{sheet_section, sheet_place}
 use Rattle.reading.specs.SheetJudged.{sheet-judged, SheetStands, sheet-stands}
 use Rattle.documents.specs.DocumentSection.{nodes_section, nodes_place, document_section, nodes_to_end, document_place, node_count_at, document_at}
+use Rattle.meaning.specs.declared.Refusal.TheVariants.{CountOutside}
 
 -- where both end, the sheet judged first
 unfoldable pub sheet_document_place : List ℕ → List ℕ → Cur
@@ -66,8 +67,8 @@ unfolding nodes_place nodes_section
 nodes-inside d known x y h =
     let a = passed (ltb x (length d)) _ 1 y h in
     let b = passed (ltb (x + 1) (length d)) _ 1 y a.1 in
-    let c = passed (leb 1 (pair_at d x)) _ count_outside y b.1 in
-    let e = passed (leb (pair_at d x) most_nodes) _ count_outside y c.1 in
+    let c = passed (leb 1 (pair_at d x)) _ CountOutside y b.1 in
+    let e = passed (leb (pair_at d x) most_nodes) _ CountOutside y c.1 in
     let start : x + 1 < length d = ltb-true (x + 1) (length d) b.0 in
     let far : y ≡ x + 2 + 3 * pair_at d x = (nodes_section d known (pair_at d x) (x + 2)).leads y e.1 ∙ threes (x + 2) (pair_at d x) in
     let within : y ≤ length d = (nodes_section d known (pair_at d x) (x + 2)).within y (omega arith) e.1 in
@@ -79,7 +80,7 @@ pub document-stands : (s d : List ℕ) (y at n : ℕ) → document_place s d ≡
 unfolding document_section nodes_to_end labels_section document_at node_count_at
 document-stands s d y at n h e f =
     let a = passed (ltb 0 (length d)) _ 1 y h in
-    let b = passed (leb (get_or s 0 0 + get_or d 0 0) most_labels) _ count_outside y a.1 in
+    let b = passed (leb (get_or s 0 0 + get_or d 0 0) most_labels) _ CountOutside y a.1 in
     let c = passed_on (labels_place s (get_or s 0 0) d 1 (get_or d 0 0)) _ y b.1 in
     let g = passed_on (nodes_place d (get_or s 0 0 + get_or d 0 0) c.0) _ y c.2 in
     let r = section c.0 g.0 ((labels_section s (get_or s 0 0) d 1 (get_or d 0 0)).leads c.0 c.1) g.1 in

@@ -10,7 +10,7 @@ use Rattle.base.specs.Loops.{and_then, run}
 use Rattle.base.specs.Standing.{place_after}
 use Rattle.base.specs.declared.Cur.{Cur}
 use Rattle.base.specs.declared.Cur.TheVariants.{At, No}
-use Rattle.meaning.specs.Numbers.{ends_early, count_outside, parent_rule, label_outside, most_labels, most_nodes}
+use Rattle.meaning.specs.Numbers.{most_labels, most_nodes}
 use Rattle.meaning.specs.Reader.{◌>>=◌, ◌>>◌, give, unless, number, end}
 use Rattle.meaning.specs.Sections.{node_parent, Node, a_node, nodes, Document, document}
 use Rattle.shapes.specs.Shapes.{node_at, after_node, nodes_at}
@@ -22,6 +22,7 @@ use Rattle.labels.specs.LabelSection.{labels_section}
 use Rattle.reading.specs.SheetPlaces.{sheet_at, labels-counted}
 use Rattle.places.specs.Fields.{given, byte_then, pair_then, unless_then, unless_as, unless_both, section_then, end_then}
 use Rattle.places.specs.InTurn.{in_turn}
+use Rattle.meaning.specs.declared.Refusal.TheVariants.{EndsEarly, CountOutside, ParentRule, LabelOutside}
 
 -- ---- nodes
 
@@ -29,8 +30,8 @@ use Rattle.places.specs.InTurn.{in_turn}
 unfoldable pub node_label : List ℕ → ℕ → ℕ → Cur
 node_label d known x =
     pick (ltb x (length d))
-    (pick (leb 1 (get_or d x 0)) (pick (leb (get_or d x 0) known) (At (x + 1)) (No label_outside)) (No label_outside))
-    (No ends_early)
+    (pick (leb 1 (get_or d x 0)) (pick (leb (get_or d x 0) known) (At (x + 1)) (No LabelOutside)) (No LabelOutside))
+    (No EndsEarly)
 
 module _ (d : List ℕ) (known : ℕ) where
   -- a node at x, after i others, with so many labels
@@ -39,9 +40,9 @@ module _ (d : List ℕ) (known : ℕ) where
   node_section i x =
       stands_as (node_at d x) (x + 2 + 1) (
       pair_then λ parent.
-      unless_then parent_rule (node_parent (i + 1) parent) (
+      unless_then ParentRule (node_parent (i + 1) parent) (
       byte_then λ label.
-      unless_both label_outside (leb 1 label) (leb label known) (
+      unless_both LabelOutside (leb 1 label) (leb label known) (
       given _)))
       refl refl
 
@@ -78,10 +79,10 @@ module _ (d : List ℕ) (known : ℕ) where
       pick (ltb x (length d))
       (pick (ltb (x + 1) (length d))
       (pick (leb 1 (pair_at d x))
-      (pick (leb (pair_at d x) most_nodes) (run node_place (pair_at d x) 0 (x + 2)) (No count_outside))
-      (No count_outside))
-      (No ends_early))
-      (No ends_early)
+      (pick (leb (pair_at d x) most_nodes) (run node_place (pair_at d x) 0 (x + 2)) (No CountOutside))
+      (No CountOutside))
+      (No EndsEarly))
+      (No EndsEarly)
 
 -- ---- a document
 
@@ -99,14 +100,14 @@ a_document ls ds = record { labels = ls; nodes = ds }
 -- the nodes of a document of n labels, from their count at x on, and the end
 unfoldable pub nodes_to_end : (s d : List ℕ) (n x : ℕ) → Section d (
     ◌>>=◌ (number 2) λ m.
-    ◌>>◌ (unless count_outside (leb 1 m && leb m most_nodes)) (
+    ◌>>◌ (unless CountOutside (leb 1 m && leb m most_nodes)) (
     ◌>>=◌ (nodes (length (sheet_at s).labels + n) m 1) λ ds.
     ◌>>◌ end (give (a_document (texts_at d 1 n) ds)))) x
 unfolding nodes_place nodes_section and_then
 nodes_to_end s d n x =
     judged_as (and_then (nodes_place d (get_or s 0 0 + n) x) (end_place d)) (
     pair_then λ m.
-    unless_both count_outside (leb 1 m) (leb m most_nodes) (
+    unless_both CountOutside (leb 1 m) (leb m most_nodes) (
     section_then _ (read_as (ap (λ (k : ℕ). nodes (k + n) m 1) (sym (labels-counted s))) (nodes_section d (get_or s 0 0 + n) m (x + 2))) λ y.
     end_then _))
     (simp and_then-pick)
@@ -116,7 +117,7 @@ unfolding document nodes_to_end document_at node_count_at sheet_at labels_in lab
 document_section s d =
     stands_as (document_at d) _ (
     byte_then λ n.
-    unless_as count_outside (leb (get_or s 0 0 + n) most_labels) (ap (λ (k : ℕ). leb (k + n) most_labels) (labels-counted s)) (
+    unless_as CountOutside (leb (get_or s 0 0 + n) most_labels) (ap (λ (k : ℕ). leb (k + n) most_labels) (labels-counted s)) (
     section_then _ (labels_section s (get_or s 0 0) d 1 n) (nodes_to_end s d n)))
     refl refl
 

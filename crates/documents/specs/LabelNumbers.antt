@@ -20,7 +20,7 @@ use Rattle.places.specs.Reached.{was_reached, was_refused}
 use Rattle.documents.specs.DocumentJudged.{both_judged, sheet_document_place}
 use Rattle.documents.specs.DocumentSection.{document_at}
 use Rattle.labels.specs.LabelSection.{length-texts}
-use Rattle.meaning.specs.Numbers.{not_there}
+use Rattle.meaning.specs.declared.Refusal.TheVariants.{NotThere}
 
 module _ {B : Type 0} (s d : List ℕ) (refuse : ℕ → B) (next : Sheet → Document → B) where
   -- both were read: what follows is of the sheet and the document that stand there
@@ -50,12 +50,12 @@ module _ (s d : List ℕ) (n : ℕ) where
   number_there x h a b = sym (both_read s d _ _ x h ∙ rw (labels-counted, le-leb 1 n a, le-leb n (get_or s 0 0 + get_or d 0 0) b))
 
   -- 0 is no label
-  pub number_zero : (x : ℕ) → sheet_document_place s d ≡ At x → n < 1 → not_there ≡ label_number s d n
+  pub number_zero : (x : ℕ) → sheet_document_place s d ≡ At x → n < 1 → NotThere ≡ label_number s d n
   unfolding label_number is_label pick
   number_zero x h a = sym (both_read s d _ _ x h ∙ rw (lt-leb 1 n a))
 
   -- nor is a number over S + D
-  pub number_over : (x : ℕ) → sheet_document_place s d ≡ At x → 1 ≤ n → get_or s 0 0 + get_or d 0 0 < n → not_there ≡ label_number s d n
+  pub number_over : (x : ℕ) → sheet_document_place s d ≡ At x → 1 ≤ n → get_or s 0 0 + get_or d 0 0 < n → NotThere ≡ label_number s d n
   unfolding label_number is_label pick
   number_over x h a b = sym (both_read s d _ _ x h ∙ rw (labels-counted, le-leb 1 n a, lt-leb n (get_or s 0 0 + get_or d 0 0) b))
 

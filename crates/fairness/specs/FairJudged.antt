@@ -7,7 +7,6 @@ use Rattle.base.specs.Choice.{pick}
 use Rattle.base.specs.Loops.{and_then}
 use Rattle.base.specs.declared.Cur.{Cur}
 use Rattle.base.specs.declared.Cur.TheVariants.{At, No}
-use Rattle.meaning.specs.Numbers.{not_fair}
 use Rattle.places.specs.Section.{Section, stands_as, section-number}
 use Rattle.places.specs.Reached.{reached, section-judged, reached-twice, number-after}
 use Rattle.reading.specs.SheetSection.{sheet_section}
@@ -29,6 +28,7 @@ use Rattle.tables.specs.TableSection.{table_place, sheet_table_place, table_entr
 use Rattle.tables.specs.TableJudged.{EntriesStand, entries-stand}
 use Rattle.fairness.specs.Each.{is_fit, fair_parts}
 use Rattle.places.specs.Fields.{given, unless_then, section_then}
+use Rattle.meaning.specs.declared.Refusal.TheVariants.{NotFair}
 
 -- whether the table is fair beside the sheet, as they stand
 unfoldable pub fair_at : List ℕ → List ℕ → Bool
@@ -40,7 +40,7 @@ unfolding fair_table fair_at table_section
 fair_table_section s t =
     stands_as (table_at t) _ (
     section_then _ (table_section s t) λ y.
-    unless_then not_fair (fair_at s t) (
+    unless_then NotFair (fair_at s t) (
     given (table_at t)))
     refl refl
 
@@ -95,12 +95,12 @@ module _ (s t : List ℕ) where
       (subscriptions_stand s v sound e, entries-stand s t y a.2 w f)
 
   -- the bytes of both first, 12 last
-  last : fair_place s t ≡ and_then (sheet_table_place s t) (λ x. pick (fair_at s t) (At x) (No not_fair))
+  last : fair_place s t ≡ and_then (sheet_table_place s t) (λ x. pick (fair_at s t) (At x) (No NotFair))
   unfolding fair_place fair_table_section sheet_table_place and_then
   last = go (sheet_place s)
     where
-      go : (c : Cur) → and_then c (λ x. and_then (table_place s t) (λ y. pick (fair_at s t) (At y) (No not_fair)))
-          ≡ and_then (and_then c (λ x. table_place s t)) (λ y. pick (fair_at s t) (At y) (No not_fair))
+      go : (c : Cur) → and_then c (λ x. and_then (table_place s t) (λ y. pick (fair_at s t) (At y) (No NotFair)))
+          ≡ and_then (and_then c (λ x. table_place s t)) (λ y. pick (fair_at s t) (At y) (No NotFair))
       go (At x) = refl
       go (No n) = refl
 
@@ -110,7 +110,7 @@ module _ (s t : List ℕ) where
   place-fair h e k = sym (last ∙ rw (h, ← e, k))
 
   -- it is not
-  pub place-not_fair : {y : ℕ} {r : Bool} → sheet_table_place s t ≡ At y → r ≡ fair_at s t → r ≡ false → No not_fair ≡ fair_place s t
+  pub place-not_fair : {y : ℕ} {r : Bool} → sheet_table_place s t ≡ At y → r ≡ fair_at s t → r ≡ false → No NotFair ≡ fair_place s t
   unfolding and_then pick
   place-not_fair h e k = sym (last ∙ rw (h, ← e, k))
 
@@ -121,7 +121,7 @@ module _ (s t : List ℕ) where
 
   -- where the table check was passed, the table is fair
   pub was_fair : {y : ℕ} → fair_place s t ≡ At y → fair_at s t ≡ true
-  was_fair {y} h = (passed (fair_at s t) _ not_fair y (passed_on (sheet_table_place s t) _ y (sym last ∙ h)).2).0
+  was_fair {y} h = (passed (fair_at s t) _ NotFair y (passed_on (sheet_table_place s t) _ y (sym last ∙ h)).2).0
 
   -- and subscriptions and entries stand
   pub fair-stand : {y : ℕ} {v : Subscriptions} {w : Entries} → fair_place s t ≡ At y → v ≡ subscriptions_of s → w ≡ table_entries t

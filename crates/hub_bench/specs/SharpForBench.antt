@@ -1,6 +1,6 @@
 -- The promises determine what the benchmark is given: any two results that they allow are equal, and so are any two outputs.
 use Rattle.std.specs.Prelude.{ℕ, ◌≡◌, List}
-use Rattle.meaning.specs.Given.{by_number, MergeValues, BuildValues, LineValues}
+use Rattle.meaning.specs.Given.{by_number, LineValues}
 use Rattle.meaning.specs.Promises.{CoversGives, MergeGives, BuildGives, ReadLineGives, WritePatternGives, WriteSubscriptionGives}
 use Rattle.meaning.proofs.Sharp.{only_one, by_number_tells}
 use Rattle.hub_bench.specs.declared.Covering.{Covering}
@@ -8,12 +8,14 @@ use Rattle.hub_bench.specs.declared.Merging.{Merging}
 use Rattle.hub_bench.specs.declared.Building.{Building}
 use Rattle.hub_bench.specs.declared.LineReading.{LineReading}
 use Rattle.hub_bench.specs.declared.LineWriting.{LineWriting}
+use Rattle.meaning.specs.declared.Merged.{Merged}
+use Rattle.meaning.specs.declared.Built.{Built}
 
 -- the length and the mark, the length and the rounds, the place and the length
-abbrev merged : Merging → MergeValues
+abbrev merged : Merging → Merged
 merged x = record { length = x.length; clipped = x.clipped }
 
-abbrev built : Building → BuildValues
+abbrev built : Building → Built
 built x = record { length = x.length; rounds = x.rounds }
 
 abbrev line_read : LineReading → LineValues

@@ -1,15 +1,16 @@
 -- The promises determine what the print server is given: any two answers that they allow are equal. (That of the sheet check is
 -- a number alone: `sheet_check_sharp` of `meaning`.)
 use Rattle.std.specs.Prelude.{ℕ, ◌≡◌, List}
-use Rattle.meaning.specs.Given.{by_number, RouteValues}
+use Rattle.meaning.specs.Given.{by_number}
 use Rattle.meaning.specs.Promises.{PlainRouteGives, TableRouteGives, WantedGives}
 use Rattle.meaning.proofs.Sharp.{only_one, by_number_tells}
 use Rattle.hub_c.specs.declared.PlainRoute.{PlainRoute}
 use Rattle.hub_c.specs.declared.TableRoute.{TableRoute}
 use Rattle.hub_c.specs.declared.Wanted.{Wanted}
+use Rattle.meaning.specs.declared.Tabled.{Tabled}
 
 -- the set and the tries
-abbrev routed : TableRoute → RouteValues
+abbrev routed : TableRoute → Tabled
 routed x = record { set = x.delivered; tried = x.tried }
 
 module _ (s d : List ℕ) where

@@ -9,13 +9,14 @@ use Rattle.base.specs.ListLaws.{some-append}
 use Rattle.base.specs.Standing.{place_after, place_after-last, standing, standing-last, length-standing}
 use Rattle.base.specs.declared.Cur.{Cur}
 use Rattle.base.specs.declared.Cur.TheVariants.{At}
-use Rattle.meaning.specs.Numbers.{label_length, label_twice, longest_label}
+use Rattle.meaning.specs.Numbers.{longest_label}
 use Rattle.meaning.specs.Sections.{same_label, label, labels}
 use Rattle.labels.specs.LabelPlaces.{text_at, after_label, texts_at}
 use Rattle.places.specs.Answer.{answer, passed}
 use Rattle.places.specs.Section.{Section, stands_as}
 use Rattle.places.specs.InTurn.{in_turn}
 use Rattle.places.specs.Fields.{given, byte_then, bytes_then, unless_both, unless_either}
+use Rattle.meaning.specs.declared.Refusal.TheVariants.{LabelLength, LabelTwice}
 
 module _ (s : List ℕ) (k : ℕ) (d : List ℕ) (p : ℕ) where
   -- a label at x, the i-th of those from the place p on in d, beside the first k labels of the sheet s
@@ -23,9 +24,9 @@ module _ (s : List ℕ) (k : ℕ) (d : List ℕ) (p : ℕ) where
   unfolding label
   label_section i x =
       byte_then λ long.
-      unless_both label_length (leb 1 long) (leb long longest_label) (
+      unless_both LabelLength (leb 1 long) (leb long longest_label) (
       bytes_then long λ text.
-      unless_either label_twice (some (same_label text) (texts_at s 1 k)) (some (same_label text) (texts_at d p i)) (some-append _ _ _) (
+      unless_either LabelTwice (some (same_label text) (texts_at s 1 k)) (some (same_label text) (texts_at d p i)) (some-append _ _ _) (
       given text))
 
   abbrev pub label_place : ℕ → ℕ → Cur

@@ -1,13 +1,13 @@
 -- What the number of an answer tells: 0 is given exactly where a call is not refused, so number 0 means that every part was
 -- read; and a refused call gives zeros (13 the place of the fault) or an empty part and leaves a lent output as found.
-use Rattle.std.specs.Prelude.{ℕ, zero, suc, ◌≤◌, ◌≡◌, Bool, List, [], eqb, leb, length, take, drop}
+use Rattle.std.specs.Prelude.{ℕ, zero, suc, ◌≤◌, ◌≡◌, Bool, List, [], eqb, leb, length, take, drop, Result, Ok, Err}
 use Rattle.std.proofs.Math.Path.{refl, sym}
 use Rattle.std.proofs.Common.{ap, ◌∙◌, ⊎_elim, arith, ne_eqb, le-leb, leb-false, take_at}
 use Rattle.std.proofs.Math.Bool.{true, false, not}
 use Rattle.std.proofs.lemmas.Bool.{false≢true}
 use Rattle.std.proofs.Math.ListN.{get_or-eq_default}
 use Rattle.base.specs.Choice.{pick}
-use Rattle.meaning.specs.Numbers.{done, count_outside, second_near, no_room, not_there, not_a_line, label_unknown, not_writable, longest_line}
+use Rattle.meaning.specs.Numbers.{done, longest_line, refusal_number}
 use Rattle.meaning.specs.Reader.{Reading, read, refused, Went, number_of}
 use Rattle.meaning.specs.Forest.{Forest}
 use Rattle.meaning.specs.Sections.{Sheet, sheet, Document, document, Entry}
@@ -20,22 +20,19 @@ use Rattle.meaning.specs.Notation.{Drawn}
 use Rattle.meaning.specs.Lines.{LineRead, off_at, draws, read_line}
 use Rattle.meaning.specs.LineCalls.{in_order, drawn_writing, line_judged, line_then, drawn_answer, line_answer, line_output, text_writing, only_pattern}
 use Rattle.meaning.specs.LineCalls.{pattern_writing, subscription_writing, output_answer}
-use Rattle.meaning.specs.Given.{Given, refusal, gives, by_number, ToldByNumber, asked_given, MergeValues, merged_given}
-use Rattle.meaning.specs.Given.{BuildValues, built_given, LineValues, lined_given, output_given, routed_given, RouteValues, tabled_given}
+use Rattle.meaning.specs.Given.{Given, refusal, gives, by_number, ToldByNumber, asked_given, merged_given}
+use Rattle.meaning.specs.Given.{built_given, LineValues, lined_given, output_given, routed_given, tabled_given}
 use Rattle.meaning.specs.Promises.{MatchesGives, CoversGives, MergeGives, BuildGives, PlainRouteGives, TableRouteGives, WantedGives}
 use Rattle.meaning.specs.Promises.{ReadLineGives, WritePatternGives, WriteSubscriptionGives}
-use Rattle.meaning.specs.declared.Asked.TheVariants as asked
-use Rattle.meaning.specs.declared.Merged.TheVariants as merged
-use Rattle.meaning.specs.declared.Built.TheVariants as built
-use Rattle.meaning.specs.declared.Lined.{Lined}
-use Rattle.meaning.specs.declared.Lined.TheVariants as lined
-use Rattle.meaning.specs.declared.Output.TheVariants as output
-use Rattle.meaning.specs.declared.Routed.{Routed}
-use Rattle.meaning.specs.declared.Routed.TheVariants as routed
-use Rattle.meaning.specs.declared.Tabled.TheVariants as tabled
 use Rattle.laws.specs.ThreeParts.{three_map}
 use Rattle.laws.specs.Refusals.{NotZero, sheet-numbered, document-numbered, fair_table-numbered, only_pattern-numbered}
 use Rattle.laws.specs.LineJudged.{refused-place}
+use Rattle.meaning.specs.declared.Refusal.TheVariants.{CountOutside, SecondNear, NoRoom, NotThere, NotALine, LabelUnknown, NotWritable}
+use Rattle.meaning.specs.declared.Merged.{Merged}
+use Rattle.meaning.specs.declared.Built.{Built}
+use Rattle.meaning.specs.declared.Tabled.{Tabled}
+use Rattle.meaning.specs.declared.Refusal.{Refusal}
+use Rattle.meaning.specs.declared.LineRefusal.{LineRefusal}
 
 -- ---- 0 is given exactly where a call is not refused
 
@@ -57,7 +54,7 @@ by_number_lem {A = A} given told h e =
     λ i. record { refused = (ap (λ (x : Given A). not (eqb x.number 0)) s ∙ sym told) i; number = (s i).number; values = (s i).values }
 
 -- an answer E that is a refusal with a number, or what follows
-module _ {E A : Type 0} (given : E → Given A) (refuse : ℕ → E) (told : (n : ℕ) → 1 ≤ n → ToldByNumber (given (refuse n))) where
+module _ {E A : Type 0} (given : E → Given A) (refuse : Refusal → E) (told : (n : Refusal) → 1 ≤ refusal_number n → ToldByNumber (given (refuse n))) where
   -- after a reading
   judged_told : {B : Type 0} (m : Reading B) (next : B → E) → NotZero m → ((b : B) → ToldByNumber (given (next b)))
       → ToldByNumber (given (judged m refuse next))
@@ -66,45 +63,45 @@ module _ {E A : Type 0} (given : E → Given A) (refuse : ℕ → E) (told : (n 
   judged_told (refused n) next h later = told n h
 
   -- where a number is asked for
-  asked_told : (t : Bool) (x : E) → ToldByNumber (given x) → ToldByNumber (given (pick t x (refuse not_there)))
+  asked_told : (t : Bool) (x : E) → ToldByNumber (given x) → ToldByNumber (given (pick t x (refuse NotThere)))
   unfolding pick
   asked_told true x h = h
-  asked_told false x h = told not_there (omega arith)
+  asked_told false x h = told NotThere (omega arith)
 
-asked-refused : (n : ℕ) → 1 ≤ n → ToldByNumber (asked_given (asked.Refused n))
+asked-refused : (n : Refusal) → 1 ≤ refusal_number n → ToldByNumber (asked_given (Err n))
 unfolding asked_given
-asked-refused n = refusal_told n false
+asked-refused n = refusal_told (refusal_number n) false
 
 pub matches_told : (s d : List ℕ) (i : ℕ) → ToldByNumber (asked_given (matches_answer s d i))
 unfolding matches_answer asked_given
 matches_told s d i =
-    judged_told asked_given asked.Refused asked-refused (sheet s) _ (sheet-numbered.not_zero s) λ sh.
-    judged_told asked_given asked.Refused asked-refused (document sh d) _ ((document-numbered sh).not_zero d) λ dc.
-    asked_told asked_given asked.Refused asked-refused _ _ (gives_told _)
+    judged_told asked_given Err asked-refused (sheet s) _ (sheet-numbered.not_zero s) λ sh.
+    judged_told asked_given Err asked-refused (document sh d) _ ((document-numbered sh).not_zero d) λ dc.
+    asked_told asked_given Err asked-refused _ _ (gives_told _)
 
 pub covers_told : (s : List ℕ) (i j : ℕ) → ToldByNumber (asked_given (covers_answer s i j))
 unfolding covers_answer asked_given
 covers_told s i j =
-    judged_told asked_given asked.Refused asked-refused (sheet s) _ (sheet-numbered.not_zero s) λ sh.
-    asked_told asked_given asked.Refused asked-refused _ _ (gives_told _)
+    judged_told asked_given Err asked-refused (sheet s) _ (sheet-numbered.not_zero s) λ sh.
+    asked_told asked_given Err asked-refused _ _ (gives_told _)
 
-routed-refused : (n : ℕ) → 1 ≤ n → ToldByNumber (routed_given (routed.Refused n))
+routed-refused : (n : Refusal) → 1 ≤ refusal_number n → ToldByNumber (routed_given (Err n))
 unfolding routed_given
-routed-refused n = refusal_told n 0
+routed-refused n = refusal_told (refusal_number n) 0
 
 pub plain_route_told : (s d : List ℕ) → ToldByNumber (routed_given (plain_answer s d))
 unfolding plain_answer routed_given
 plain_route_told s d =
-    judged_told routed_given routed.Refused routed-refused (sheet s) _ (sheet-numbered.not_zero s) λ sh.
-    judged_told routed_given routed.Refused routed-refused (document sh d) _ ((document-numbered sh).not_zero d) λ dc.
+    judged_told routed_given Err routed-refused (sheet s) _ (sheet-numbered.not_zero s) λ sh.
+    judged_told routed_given Err routed-refused (document sh d) _ ((document-numbered sh).not_zero d) λ dc.
     gives_told _
 
-tabled_refused : (n : ℕ) → 1 ≤ n → ToldByNumber (tabled_given (tabled.Refused n))
+tabled_refused : (n : Refusal) → 1 ≤ refusal_number n → ToldByNumber (tabled_given (Err n))
 unfolding tabled_given
-tabled_refused n = refusal_told n _
+tabled_refused n = refusal_told (refusal_number n) _
 
 -- after sheet, table and document
-module _ {E A : Type 0} (given : E → Given A) (refuse : ℕ → E) (told : (n : ℕ) → 1 ≤ n → ToldByNumber (given (refuse n))) where
+module _ {E A : Type 0} (given : E → Given A) (refuse : Refusal → E) (told : (n : Refusal) → 1 ≤ refusal_number n → ToldByNumber (given (refuse n))) where
   three_told : (says : Sheet → List Entry → Document → E) → ((sh : Sheet) (es : List Entry) (dc : Document) → ToldByNumber (given (says sh es dc)))
       → (s t d : List ℕ) → ToldByNumber (given (three_judged refuse says s t d))
   unfolding three_judged
@@ -116,21 +113,21 @@ module _ {E A : Type 0} (given : E → Given A) (refuse : ℕ → E) (told : (n 
 
 pub table_route_told : (s t d : List ℕ) → ToldByNumber (tabled_given (table_answer s t d))
 unfolding table_answer three_judged tabled_given
-table_route_told = three_told tabled_given tabled.Refused tabled_refused _ λ sh es dc. gives_told _
+table_route_told = three_told tabled_given Err tabled_refused _ λ sh es dc. gives_told _
 
 pub wanted_told : (s t d : List ℕ) → ToldByNumber (asked_given (wanted_answer s t d))
 unfolding wanted_answer three_judged asked_given
-wanted_told = three_told asked_given asked.Refused asked-refused _ λ sh es dc. gives_told _
+wanted_told = three_told asked_given Err asked-refused _ λ sh es dc. gives_told _
 
 -- ---- the same of what is written
 
 module _ {A : Type 0} where
   unfoldable WritingNotZero : Writing A → Type 0
-  WritingNotZero (refuses n) = 1 ≤ n
+  WritingNotZero (refuses n) = 1 ≤ refusal_number n
   WritingNotZero (writes a bs) = Unit {0}
 
   -- a test, with the number of its fault
-  test_writing : (t : Bool) (w : Writing A) (n : ℕ) → 1 ≤ n → WritingNotZero w → WritingNotZero (pick t w (refuses n))
+  test_writing : (t : Bool) (w : Writing A) (n : Refusal) → 1 ≤ refusal_number n → WritingNotZero w → WritingNotZero (pick t w (refuses n))
   unfolding WritingNotZero pick
   test_writing true w n h later = later
   test_writing false w n h later = h
@@ -139,7 +136,7 @@ module _ {A : Type 0} where
   room_not_zero : (out : List ℕ) (w : Writing A) → WritingNotZero w → WritingNotZero (with_room out w)
   unfolding WritingNotZero with_room
   room_not_zero out (refuses n) h = h
-  room_not_zero out (writes a bs) h = test_writing (leb (length bs) (length out)) (writes a bs) no_room (omega arith) tt
+  room_not_zero out (writes a bs) h = test_writing (leb (length bs) (length out)) (writes a bs) NoRoom (omega arith) tt
 
   judged_writing : {B : Type 0} (m : Reading B) (next : B → Writing A) → NotZero m → ((b : B) → WritingNotZero (next b))
       → WritingNotZero (judged m refuses next)
@@ -149,18 +146,18 @@ module _ {A : Type 0} where
 
 merge_told_of : (w : Writing Bool) → WritingNotZero w → ToldByNumber (merged_given (merge_answer w))
 unfolding WritingNotZero merge_answer merged_given
-merge_told_of (refuses n) h = refusal_told n _ h
+merge_told_of (refuses n) h = refusal_told (refusal_number n) _ h
 merge_told_of (writes clipped bs) h = gives_told _
 
 pub merge_told : (s : List ℕ) (i j : ℕ) (out : List ℕ) → ToldByNumber (merged_given (merge_answer (with_room out (merge_writing s i j))))
 unfolding merge_writing WritingNotZero
 merge_told s i j out =
     merge_told_of _ (room_not_zero out (merge_writing s i j)
-    (judged_writing (sheet s) _ (sheet-numbered.not_zero s) λ sh. test_writing _ _ not_there (omega arith) tt))
+    (judged_writing (sheet s) _ (sheet-numbered.not_zero s) λ sh. test_writing _ _ NotThere (omega arith) tt))
 
 build_told_of : (w : Writing ℕ) → WritingNotZero w → ToldByNumber (built_given (build_answer w))
 unfolding WritingNotZero build_answer built_given
-build_told_of (refuses n) h = refusal_told n _ h
+build_told_of (refuses n) h = refusal_told (refusal_number n) _ h
 build_told_of (writes rounds bs) h = gives_told _
 
 pub build_told : (s : List ℕ) (limit : ℕ) (out : List ℕ) → ToldByNumber (built_given (build_answer (with_room out (build_writing s limit))))
@@ -170,12 +167,12 @@ build_told s limit out =
 
 output_told_of : (w : Writing (Unit {0})) → WritingNotZero w → ToldByNumber (output_given (output_answer w))
 unfolding WritingNotZero output_answer output_given
-output_told_of (refuses n) h = refusal_told n _ h
+output_told_of (refuses n) h = refusal_told (refusal_number n) _ h
 output_told_of (writes u bs) h = gives_told _
 
 text_not_zero : (ls : List (List ℕ)) (f : Forest) → WritingNotZero (text_writing ls f)
 unfolding text_writing WritingNotZero
-text_not_zero ls f = test_writing _ _ not_writable (omega arith) tt
+text_not_zero ls f = test_writing _ _ NotWritable (omega arith) tt
 
 pattern_not_zero : (s p : List ℕ) → WritingNotZero (pattern_writing s p)
 unfolding pattern_writing
@@ -188,7 +185,7 @@ subscription_not_zero : (s : List ℕ) (i : ℕ) → WritingNotZero (subscriptio
 unfolding subscription_writing
 subscription_not_zero s i =
     judged_writing (sheet s) _ (sheet-numbered.not_zero s) λ sh.
-    test_writing _ _ not_there (omega arith) (text_not_zero sh.labels (subscription sh i))
+    test_writing _ _ NotThere (omega arith) (text_not_zero sh.labels (subscription sh i))
 
 pub write_pattern_told : (s p out : List ℕ) → ToldByNumber (output_given (output_answer (with_room out (pattern_writing s p))))
 write_pattern_told s p out = output_told_of _ (room_not_zero out (pattern_writing s p) (pattern_not_zero s p))
@@ -198,9 +195,9 @@ write_subscription_told s i out = output_told_of _ (room_not_zero out (subscript
 
 -- ---- and of a line read: a place comes with 13 alone, and is at most 1,024
 
-unfoldable PlaceTold : Lined → Type 0
-PlaceTold (lined.Refused n place) = (1 ≤ n) × (place ≤ longest_line) × ((n ≡ not_a_line → ⊥) → place ≡ 0)
-PlaceTold (lined.Wrote long) = Unit {0}
+unfoldable PlaceTold : Result ℕ LineRefusal → Type 0
+PlaceTold (Err e) = (1 ≤ refusal_number e.why) × (e.place ≤ longest_line) × ((refusal_number e.why ≡ refusal_number NotALine → ⊥) → e.place ≡ 0)
+PlaceTold (Ok long) = Unit {0}
 
 -- what is written comes with none
 written-placed : (w : Writing (Unit {0})) → WritingNotZero w → PlaceTold (drawn_answer w)
@@ -211,28 +208,28 @@ written-placed (writes u bs) h = tt
 drawn_not_zero : (ls : List (List ℕ)) (ds : List Drawn) → WritingNotZero (drawn_writing ls ds)
 unfolding drawn_writing in_order WritingNotZero
 drawn_not_zero ls ds =
-    test_writing _ _ label_unknown (omega arith) (test_writing _ _ count_outside (omega arith) (test_writing _ _ second_near (omega arith) tt))
+    test_writing _ _ LabelUnknown (omega arith) (test_writing _ _ CountOutside (omega arith) (test_writing _ _ SecondNear (omega arith) tt))
 
 line-placed : (s line out : List ℕ) → PlaceTold (line_answer out s line)
 unfolding line_answer line_then judged line_judged PlaceTold NotZero
 line-placed s line out = by_sheet (sheet s) (sheet-numbered.not_zero s)
   where
-    next : Sheet → List Drawn → Lined
+    next : Sheet → List Drawn → Result ℕ LineRefusal
     next sh ds = drawn_answer (with_room out (drawn_writing sh.labels ds))
 
-    by_line : (sh : Sheet) (r : LineRead) → read_line line ≡ r → PlaceTold (line_judged r (lined.Refused not_a_line) (next sh))
+    by_line : (sh : Sheet) (r : LineRead) → read_line line ≡ r → PlaceTold (line_judged r (λ at. Err (record { why = NotALine; place = at })) (next sh))
     by_line sh (off_at i) e = (omega arith, ⊎_elim (λ f. f.0) (λ f. omega arith) (refused-place line i e), λ other. absurd (other refl))
     by_line sh (draws ds) e = written-placed _ (room_not_zero out (drawn_writing sh.labels ds) (drawn_not_zero sh.labels ds))
 
     by_sheet : (m : Reading Sheet) → NotZero m
-        → PlaceTold (judged m (λ n. lined.Refused n 0) (λ sh. line_judged (read_line line) (lined.Refused not_a_line) (next sh)))
+        → PlaceTold (judged m (λ n. Err (record { why = n; place = 0 })) (λ sh. line_judged (read_line line) (λ at. Err (record { why = NotALine; place = at })) (next sh)))
     by_sheet (read sh left) h = by_line sh (read_line line) refl
     by_sheet (refused n) h = (h, omega arith, λ other. refl)
 
-lined_told_of : (x : Lined) → PlaceTold x → ToldByNumber (lined_given x)
+lined_told_of : (x : Result ℕ LineRefusal) → PlaceTold x → ToldByNumber (lined_given x)
 unfolding PlaceTold lined_given
-lined_told_of (lined.Refused n place) h = refusal_told n _ h.0
-lined_told_of (lined.Wrote long) h = gives_told _
+lined_told_of (Err e) h = refusal_told (refusal_number e.why) _ h.0
+lined_told_of (Ok long) h = gives_told _
 
 pub read_line_told : (s line out : List ℕ) → ToldByNumber (lined_given (line_answer out s line))
 read_line_told s line out = lined_told_of _ (line-placed s line out)
@@ -265,7 +262,7 @@ unfolding WritingNotZero with_room pick output_answer output_given refusal gives
 output_0 found (refuses n) h g left answer output e = absurd (omega (arith, ap (λ (x : Given ℕ). x.number) answer))
 output_0 found (writes u bs) h g left answer output e = go (leb (length bs) (length found)) answer output
   where
-    go : (fits : Bool) → (let v = pick fits (writes u bs) (refuses no_room) in g ≡ output_given (output_answer v) → left ≡ after found v
+    go : (fits : Bool) → (let v = pick fits (writes u bs) (refuses NoRoom) in g ≡ output_given (output_answer v) → left ≡ after found v
         → writes u bs ≡ writes tt (take g.values left))
     go true a o =
         let long : g.values ≡ length bs = ap (λ (x : Given ℕ). x.values) a in
@@ -286,17 +283,17 @@ pub label_0 : (s d : List ℕ) (n : ℕ) → label_number s d n ≡ 0
 unfolding label_number judged pick NotZero
 label_0 s d n h = by_sheet (sheet s) (sheet-numbered.not_zero s) h
   where
-    asked : (b : Bool) → pick b done not_there ≡ 0 → b ≡ true
+    asked : (b : Bool) → pick b done (refusal_number NotThere) ≡ 0 → b ≡ true
     asked true e = refl
     asked false e = absurd (omega arith)
 
-    by_document : (sh : Sheet) (m : Reading Document) → NotZero m → judged m (λ k. k) (λ dc. pick (is_label (labels_of sh dc) n) done not_there) ≡ 0
+    by_document : (sh : Sheet) (m : Reading Document) → NotZero m → judged m refusal_number (λ dc. pick (is_label (labels_of sh dc) n) done (refusal_number NotThere)) ≡ 0
         → (v : Went m) × (is_label (labels_of sh v.value) n ≡ true)
     by_document sh (read dc left) z e = (record { value = dc; left = left; reads = refl }, asked (is_label (labels_of sh dc) n) e)
     by_document sh (refused k) z e = absurd (omega arith)
 
     by_sheet : (m : Reading Sheet) → NotZero m
-        → judged m (λ k. k) (λ sh. judged (document sh d) (λ k. k) (λ dc. pick (is_label (labels_of sh dc) n) done not_there)) ≡ 0
+        → judged m refusal_number (λ sh. judged (document sh d) refusal_number (λ dc. pick (is_label (labels_of sh dc) n) done (refusal_number NotThere))) ≡ 0
         → (w : Went m) × (v : Went (document w.value d)) × (is_label (labels_of w.value v.value) n ≡ true)
     by_sheet (read sh left) z e =
         let r = by_document sh (document sh d) ((document-numbered sh).not_zero d) e in
@@ -326,38 +323,38 @@ pub plain_route-number : (s d : List ℕ) → (routed_given (plain_answer s d)).
 unfolding plain_answer document_number judged routed_given refusal gives number_of
 plain_route-number s d = by_sheet (sheet s)
   where
-    route : Sheet → Document → Routed
-    route sh dc = routed.Delivered (plain_route dc.nodes sh.patterns)
+    route : Sheet → Document → Result ℕ Refusal
+    route sh dc = Ok (plain_route dc.nodes sh.patterns)
 
-    by_document : (sh : Sheet) (m : Reading Document) → (routed_given (judged m routed.Refused (route sh))).number ≡ number_of m
+    by_document : (sh : Sheet) (m : Reading Document) → (routed_given (judged m Err (route sh))).number ≡ number_of m
     by_document sh (read dc left) = refl
     by_document sh (refused n) = refl
 
     by_sheet : (m : Reading Sheet)
-        → (routed_given (judged m routed.Refused (λ sh. judged (document sh d) routed.Refused (route sh)))).number
-        ≡ judged m (λ n. n) (λ sh. number_of (document sh d))
+        → (routed_given (judged m Err (λ sh. judged (document sh d) Err (route sh)))).number
+        ≡ judged m refusal_number (λ sh. number_of (document sh d))
     by_sheet (read sh left) = by_document sh (document sh d)
     by_sheet (refused n) = refl
 
 -- after sheet, table and document: the first fault of the table's, which is judged beside the sheet, and the document's
-three_fault : (s t d : List ℕ) → three_judged (λ n. n) (λ sh es dc. 0) s t d ≡ first_fault (table_number s t) (document_number s d)
+three_fault : (s t d : List ℕ) → three_judged refusal_number (λ sh es dc. 0) s t d ≡ first_fault (table_number s t) (document_number s d)
 unfolding three_judged table_number document_number judged number_of NotZero first_fault pick
 three_fault s t d = by_sheet (sheet s)
   where
-    by_document : (m : Reading Document) → judged m (λ n. n) (λ dc. 0) ≡ number_of m
+    by_document : (m : Reading Document) → judged m refusal_number (λ dc. 0) ≡ number_of m
     by_document (read dc left) = refl
     by_document (refused n) = refl
 
     by_table_lem : (sh : Sheet) (m : Reading (List Entry)) → NotZero m
-        → judged m (λ n. n) (λ es. judged (document sh d) (λ n. n) (λ dc. 0)) ≡ first_fault (number_of m) (number_of (document sh d))
+        → judged m refusal_number (λ es. judged (document sh d) refusal_number (λ dc. 0)) ≡ first_fault (number_of m) (number_of (document sh d))
     by_table_lem sh (read es left) h = by_document (document sh d)
-    by_table_lem sh (refused n) h = earlier_fault n (number_of (document sh d)) h
+    by_table_lem sh (refused n) h = earlier_fault (refusal_number n) (number_of (document sh d)) h
 
     by_sheet : (m : Reading Sheet)
-        → judged m (λ n. n) (λ sh. judged (fair_table sh t) (λ n. n) (λ es. judged (document sh d) (λ n. n) (λ dc. 0)))
-        ≡ first_fault (judged m (λ n. n) (λ sh. number_of (fair_table sh t))) (judged m (λ n. n) (λ sh. number_of (document sh d)))
+        → judged m refusal_number (λ sh. judged (fair_table sh t) refusal_number (λ es. judged (document sh d) refusal_number (λ dc. 0)))
+        ≡ first_fault (judged m refusal_number (λ sh. number_of (fair_table sh t))) (judged m refusal_number (λ sh. number_of (document sh d)))
     by_sheet (read sh left) = by_table_lem sh (fair_table sh t) ((fair_table-numbered sh).not_zero t)
-    by_sheet (refused n) = same-fault n
+    by_sheet (refused n) = same-fault (refusal_number n)
 
 pub table_route-number : (s t d : List ℕ) → (tabled_given (table_answer s t d)).number ≡ first_fault (table_number s t) (document_number s d)
 unfolding table_answer tabled_given refusal gives
@@ -382,47 +379,47 @@ module _ {E A : Type 0} (given : E → Given A) (zeros : A) where
 
 asked_cases : RefusesWithZeros asked_given false
 unfolding asked_given refusal gives
-asked_cases (asked.Refused n) h = refl
-asked_cases (asked.Said b) h = absurd (false≢true h)
+asked_cases (Err n) h = refl
+asked_cases (Ok b) h = absurd (false≢true h)
 
 merged_cases : RefusesWithZeros merged_given (record { length = 0; clipped = false })
 unfolding merged_given refusal gives
-merged_cases (merged.Refused n) h = refl
-merged_cases (merged.Wrote k b) h = absurd (false≢true h)
+merged_cases (Err n) h = refl
+merged_cases (Ok m) h = absurd (false≢true h)
 
 built_cases : RefusesWithZeros built_given (record { length = 0; rounds = 0 })
 unfolding built_given refusal gives
-built_cases (built.Refused n) h = refl
-built_cases (built.Wrote k b) h = absurd (false≢true h)
+built_cases (Err n) h = refl
+built_cases (Ok b) h = absurd (false≢true h)
 
 routed_cases : RefusesWithZeros routed_given 0
 unfolding routed_given refusal gives
-routed_cases (routed.Refused n) h = refl
-routed_cases (routed.Delivered set) h = absurd (false≢true h)
+routed_cases (Err n) h = refl
+routed_cases (Ok set) h = absurd (false≢true h)
 
 tabled_cases : RefusesWithZeros tabled_given (record { set = 0; tried = 0 })
 unfolding tabled_given refusal gives
-tabled_cases (tabled.Refused n) h = refl
-tabled_cases (tabled.Delivered set tried) h = absurd (false≢true h)
+tabled_cases (Err n) h = refl
+tabled_cases (Ok t) h = absurd (false≢true h)
 
 output_cases : RefusesWithZeros output_given 0
 unfolding output_given refusal gives
-output_cases (output.Refused n) h = refl
-output_cases (output.Wrote k) h = absurd (false≢true h)
+output_cases (Err n) h = refl
+output_cases (Ok k) h = absurd (false≢true h)
 
 -- save the place
-lined_cases : (x : Lined) → (lined_given x).refused ≡ true
+lined_cases : (x : Result ℕ LineRefusal) → (lined_given x).refused ≡ true
     → lined_given x ≡ refusal (lined_given x).number (record { place = (lined_given x).values.place; length = 0 })
 unfolding lined_given refusal gives
-lined_cases (lined.Refused n place) h = refl
-lined_cases (lined.Wrote long) h = absurd (false≢true h)
+lined_cases (Err e) h = refl
+lined_cases (Ok long) h = absurd (false≢true h)
 
 -- which comes with 13 alone
-lined_place : (x : Lined) → PlaceTold x
-    → ((lined_given x).values.place ≤ longest_line) × (((lined_given x).number ≡ not_a_line → ⊥) → (lined_given x).values.place ≡ 0)
+lined_place : (x : Result ℕ LineRefusal) → PlaceTold x
+    → ((lined_given x).values.place ≤ longest_line) × (((lined_given x).number ≡ refusal_number NotALine → ⊥) → (lined_given x).values.place ≡ 0)
 unfolding lined_given refusal gives PlaceTold
-lined_place (lined.Refused n place) h = (h.1, h.2)
-lined_place (lined.Wrote long) h = (omega arith, λ other. refl)
+lined_place (Err e) h = (h.1, h.2)
+lined_place (Ok long) h = (omega arith, λ other. refl)
 
 -- a refused writing leaves the output as found
 merge_as_found : (out : List ℕ) (w : Writing Bool) → (merged_given (merge_answer w)).refused ≡ true → after out w ≡ out
@@ -452,7 +449,7 @@ line_as_found : (s line out : List ℕ) → (lined_given (line_answer out s line
 unfolding line_answer line_output line_then judged line_judged drawn_answer lined_given refusal gives after
 line_as_found s line out h = by_sheet (sheet s) h
   where
-    next : Sheet → List Drawn → Lined
+    next : Sheet → List Drawn → Result ℕ LineRefusal
     next sh ds = drawn_answer (with_room out (drawn_writing sh.labels ds))
 
     left : Sheet → List Drawn → List ℕ
@@ -462,13 +459,13 @@ line_as_found s line out h = by_sheet (sheet s) h
     written (refuses n) k = refl
     written (writes u bs) k = absurd (false≢true k)
 
-    by_line : (sh : Sheet) (r : LineRead) → (lined_given (line_judged r (lined.Refused not_a_line) (next sh))).refused ≡ true
+    by_line : (sh : Sheet) (r : LineRead) → (lined_given (line_judged r (λ at. Err (record { why = NotALine; place = at })) (next sh))).refused ≡ true
         → line_judged r (λ i. out) (left sh) ≡ out
     by_line sh (off_at i) k = refl
     by_line sh (draws ds) k = written (with_room out (drawn_writing sh.labels ds)) k
 
     by_sheet : (m : Reading Sheet)
-        → (lined_given (judged m (λ n. lined.Refused n 0) (λ sh. line_judged (read_line line) (lined.Refused not_a_line) (next sh)))).refused ≡ true
+        → (lined_given (judged m (λ n. Err (record { why = n; place = 0 })) (λ sh. line_judged (read_line line) (λ at. Err (record { why = NotALine; place = at })) (next sh)))).refused ≡ true
         → judged m (λ n. out) (λ sh. line_judged (read_line line) (λ i. out) (left sh)) ≡ out
     by_sheet (read sh rest) k = by_line sh (read_line line) k
     by_sheet (refused n) k = refl
@@ -483,7 +480,7 @@ module _ (s : List ℕ) where
   pub plain_route_zeros : (d : List ℕ) (g : Given ℕ) → PlainRouteGives s d g → 1 ≤ g.number → g ≡ refusal g.number 0
   plain_route_zeros d = zeros_of routed_given 0 routed_cases (plain_answer s d) (plain_route_told s d)
 
-  pub table_route_zeros : (t d : List ℕ) (g : Given RouteValues) → TableRouteGives s t d g → 1 ≤ g.number
+  pub table_route_zeros : (t d : List ℕ) (g : Given Tabled) → TableRouteGives s t d g → 1 ≤ g.number
       → g ≡ refusal g.number (record { set = 0; tried = 0 })
   table_route_zeros t d = zeros_of tabled_given _ tabled_cases (table_answer s t d) (table_route_told s t d)
 
@@ -491,21 +488,21 @@ module _ (s : List ℕ) where
   wanted_zeros t d = zeros_of asked_given false asked_cases (wanted_answer s t d) (wanted_told s t d)
 
   -- and the output is as found
-  pub merge_zeros : (i j : ℕ) (found : List ℕ) (g : Given MergeValues) (left : List ℕ) → MergeGives s i j found g left → 1 ≤ g.number
+  pub merge_zeros : (i j : ℕ) (found : List ℕ) (g : Given Merged) (left : List ℕ) → MergeGives s i j found g left → 1 ≤ g.number
       → (g ≡ refusal g.number (record { length = 0; clipped = false })) × (left ≡ found)
   unfolding refusal
   merge_zeros i j found g left p h =
       let w = with_room found (merge_writing s i j) in
       let zeros = zeros_of merged_given _ merged_cases (merge_answer w) (merge_told s i j found) g p.answer h in
-      (zeros, p.output ∙ merge_as_found found w (ap (λ (x : Given MergeValues). x.refused) (sym p.answer ∙ zeros)))
+      (zeros, p.output ∙ merge_as_found found w (ap (λ (x : Given Merged). x.refused) (sym p.answer ∙ zeros)))
 
-  pub build_zeros : (limit : ℕ) (found : List ℕ) (g : Given BuildValues) (left : List ℕ) → BuildGives s limit found g left → 1 ≤ g.number
+  pub build_zeros : (limit : ℕ) (found : List ℕ) (g : Given Built) (left : List ℕ) → BuildGives s limit found g left → 1 ≤ g.number
       → (g ≡ refusal g.number (record { length = 0; rounds = 0 })) × (left ≡ found)
   unfolding refusal
   build_zeros limit found g left p h =
       let w = with_room found (build_writing s limit) in
       let zeros = zeros_of built_given _ built_cases (build_answer w) (build_told s limit found) g p.answer h in
-      (zeros, p.output ∙ build_as_found found w (ap (λ (x : Given BuildValues). x.refused) (sym p.answer ∙ zeros)))
+      (zeros, p.output ∙ build_as_found found w (ap (λ (x : Given Built). x.refused) (sym p.answer ∙ zeros)))
 
   pub write_pattern_zeros : (p found : List ℕ) (g : Given ℕ) (left : List ℕ) → WritePatternGives s p found g left → 1 ≤ g.number
       → (g ≡ refusal g.number 0) × (left ≡ found)
@@ -526,7 +523,7 @@ module _ (s : List ℕ) where
 
   -- which is 0 with every number but 13, and at most 1,024
   pub read_line-place : (line found : List ℕ) (g : Given LineValues) (left : List ℕ) → ReadLineGives s line found g left
-      → (g.values.place ≤ longest_line) × ((g.number ≡ not_a_line → ⊥) → g.values.place ≡ 0)
+      → (g.values.place ≤ longest_line) × ((g.number ≡ refusal_number NotALine → ⊥) → g.values.place ≡ 0)
   read_line-place line found g left r = rw r.answer (lined_place (line_answer found s line) (line-placed s line found))
 
 -- no label, no bytes
@@ -541,17 +538,17 @@ unfolding label_number label_part judged pick
 label_empty s d n h = by_sheet (sheet s) h
   where
     number : Sheet → Document → ℕ
-    number sh dc = pick (is_label (labels_of sh dc) n) done not_there
+    number sh dc = pick (is_label (labels_of sh dc) n) done (refusal_number NotThere)
 
-    asked : (sh : Sheet) (dc : Document) (there : Bool) → is_label (labels_of sh dc) n ≡ there → 1 ≤ pick there done not_there → label_at (labels_of sh dc) n ≡ []
+    asked : (sh : Sheet) (dc : Document) (there : Bool) → is_label (labels_of sh dc) n ≡ there → 1 ≤ pick there done (refusal_number NotThere) → label_at (labels_of sh dc) n ≡ []
     asked sh dc true e k = absurd (omega arith)
     asked sh dc false e k = no_label (labels_of sh dc) n e
 
-    by_document : (sh : Sheet) (m : Reading Document) → 1 ≤ judged m (λ k. k) (number sh) → judged m (λ k. []) (λ dc. label_at (labels_of sh dc) n) ≡ []
+    by_document : (sh : Sheet) (m : Reading Document) → 1 ≤ judged m refusal_number (number sh) → judged m (λ k. []) (λ dc. label_at (labels_of sh dc) n) ≡ []
     by_document sh (read dc left) k = asked sh dc (is_label (labels_of sh dc) n) refl k
     by_document sh (refused m) k = refl
 
-    by_sheet : (m : Reading Sheet) → 1 ≤ judged m (λ k. k) (λ sh. judged (document sh d) (λ k. k) (number sh))
+    by_sheet : (m : Reading Sheet) → 1 ≤ judged m refusal_number (λ sh. judged (document sh d) refusal_number (number sh))
         → judged m (λ k. []) (λ sh. judged (document sh d) (λ k. []) (λ dc. label_at (labels_of sh dc) n)) ≡ []
     by_sheet (read sh left) k = by_document sh (document sh d) k
     by_sheet (refused m) k = refl

@@ -1,6 +1,6 @@
 -- The rose bench examples that are to be proved, 1 to 12, as a single list under one claim. Those about sheet R and
 -- document D1 go from the bytes to the answers.
-use Rattle.std.specs.Prelude.{ℕ, ◌≡◌, refl, Bool, true, false}
+use Rattle.std.specs.Prelude.{ℕ, ◌≡◌, refl, Bool, true, false, Result, Ok}
 use mathlib.Core.List.{List, [], ◌∷◌, flat_map}
 use Rattle.base.specs.Choice.{pick}
 use Rattle.base.specs.Lists.{some, every, keep, total, without, numbers_from}
@@ -24,19 +24,15 @@ use Rattle.meaning.specs.Calls.{judged, fair_table, is_subscription, subscriptio
 use Rattle.meaning.specs.Calls.{three_judged, Writing, writes, merge_writing, build_writing, plain_answer, table_answer}
 use Rattle.meaning.specs.PatternText.{ascii, axis_text, label_text, several, in_brackets, branches_text, pattern_text}
 use Rattle.meaning.specs.Printing.{decimal_in, decimal, comma_text, totals_text, entry_text, table_text, asking, printed}
-use Rattle.meaning.specs.declared.Asked.{Asked}
-use Rattle.meaning.specs.declared.Asked.TheVariants as asked
-use Rattle.meaning.specs.declared.Routed.{Routed}
-use Rattle.meaning.specs.declared.Routed.TheVariants as routed
 use Rattle.meaning.specs.declared.Tabled.{Tabled}
-use Rattle.meaning.specs.declared.Tabled.TheVariants as tabled
 use Rattle.meaning.specs.RoseBench.{sheet_r, document_d1, document_sony, table_r3, table_r2, table_r0, merge_r01, slash, slashes, a, b, c, star}
+use Rattle.meaning.specs.declared.Refusal.{Refusal}
 
 -- what an example answers
 pub data Answer : Type 0 where
-  asks : Asked → Answer
-  routes : Routed → Answer
-  routes_by : Tabled → Answer
+  asks : Result Bool Refusal → Answer
+  routes : Result ℕ Refusal → Answer
+  routes_by : Result Tabled Refusal → Answer
   covered : Bool → Answer
   merges : Merge → Answer
   writes_merge : Writing Bool → Answer
@@ -86,17 +82,17 @@ case_answers =
 unfoldable pub case_expected : List Answer
 case_expected =
     -- 1: D1 satisfies s0 and s2 and not s1; plain route 5
-    asks (asked.Said true)
-    ∷ asks (asked.Said false)
-    ∷ asks (asked.Said true)
-    ∷ routes (routed.Delivered 5)
+    asks (Ok true)
+    ∷ asks (Ok false)
+    ∷ asks (Ok true)
+    ∷ routes (Ok 5)
     -- 2: a document of one node SONY: route 0
-    ∷ routes (routed.Delivered 0)
+    ∷ routes (Ok 0)
     -- 3: s2 covers s0; s0 doesn't cover s2
-    ∷ asks (asked.Said true)
-    ∷ asks (asked.Said false)
+    ∷ asks (Ok true)
+    ∷ asks (Ok false)
     -- 4: s1 doesn't cover s0; //Bach covers s0 and s1
-    ∷ asks (asked.Said false)
+    ∷ asks (Ok false)
     ∷ covered true
     ∷ covered true
     -- 5: a pattern without steps covers s0; //* doesn't cover a pattern without steps
@@ -117,7 +113,7 @@ case_expected =
     ∷ builds (writes 1 table_r2)
     ∷ builds (writes 2 table_r0)
     -- 12: D1 through the limit 3 table: 5, 4 tried
-    ∷ routes_by (tabled.Delivered 5 4)
+    ∷ routes_by (Ok (record { set = 5; tried = 4 }))
     ∷ []
 
 -- the one claim

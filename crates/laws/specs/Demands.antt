@@ -2,14 +2,14 @@
 -- call gives is its answer, for any bytes and numbers, by its promise (`meaning`, Promises); this page says of the answers what
 -- the customer asked for. Many theorems speak of a sheet and a document as they were read: `sheet_of_0` and `document_of_0` give
 -- that where the number is 0.
-use Rattle.std.specs.Prelude.{ℕ, suc, ◌+◌, ◌≤◌, ◌<◌, ◌≡◌, refl, ◌⊎◌, ◌↔◌, Bool, true, false, not, length, take}
+use Rattle.std.specs.Prelude.{ℕ, suc, ◌+◌, ◌≤◌, ◌<◌, ◌≡◌, refl, ◌⊎◌, ◌↔◌, Bool, true, false, not, length, take, Result, Ok, Err}
 use Rattle.std.proofs.Common.{sym, ap, ◌∙◌, inl, inr}
 use mathlib.Core.List.{List, [], map, Memᴰ}
 use borrow.Author.Tests.{ltb-true, lt-ltb, le-leb, lt-leb}
 use Rattle.base.specs.Bools.{not_both}
 use Rattle.base.specs.Choice.{pick}
 use Rattle.base.specs.Lists.{every}
-use Rattle.meaning.specs.Numbers.{count_outside, second_near, no_room, not_there, not_a_line, label_unknown, not_writable, most_steps, longest_line}
+use Rattle.meaning.specs.Numbers.{most_steps, longest_line, refusal_number}
 use Rattle.meaning.specs.Reader.{read, refused, Went, Reader}
 use Rattle.meaning.specs.Forest.{near, axis_of, Forest, none, step, is_none, size, steps_of, is_child}
 use Rattle.meaning.specs.Sections.{Sheet, sheet, Document, document, Node, Entry}
@@ -31,17 +31,11 @@ use Rattle.meaning.specs.Lines.{off_at, draws, read_line}
 use Rattle.meaning.specs.LineCalls.{name_number, is_known, known_drawn, numbered_step, line_answer, step_writable, text_writing, only_pattern}
 use Rattle.meaning.specs.LineCalls.{pattern_writing, subscription_writing, output_answer}
 use Rattle.meaning.specs.Printing.{asking}
-use Rattle.meaning.specs.Given.{Given, refusal, ToldByNumber, asked_given, MergeValues, merged_given}
-use Rattle.meaning.specs.Given.{BuildValues, built_given, LineValues, lined_given, output_given, routed_given, RouteValues, tabled_given}
+use Rattle.meaning.specs.Given.{Given, refusal, ToldByNumber, asked_given, merged_given}
+use Rattle.meaning.specs.Given.{built_given, LineValues, lined_given, output_given, routed_given, tabled_given}
 use Rattle.meaning.specs.Promises.{MatchesGives, CoversGives, MergeGives, BuildGives, PlainRouteGives, TableRouteGives, WantedGives}
 use Rattle.meaning.specs.Promises.{ReadLineGives, WritePatternGives, WriteSubscriptionGives}
-use Rattle.meaning.specs.declared.Asked.{Asked}
-use Rattle.meaning.specs.declared.Asked.TheVariants as asked
-use Rattle.meaning.specs.declared.Lined.TheVariants as lined
-use Rattle.meaning.specs.declared.Output.TheVariants as output
-use Rattle.meaning.specs.declared.Routed.TheVariants as routed
 use Rattle.meaning.specs.declared.Step.{Step}
-use Rattle.meaning.specs.declared.Tabled.TheVariants as tabled
 use Rattle.laws.specs.Refusals.{NotZero, Numbered, sheet-numbered, document-numbered, fair_table-numbered, asking-numbered}
 use Rattle.laws.specs.Refusals.{only_pattern-numbered}
 use Rattle.laws.specs.AnswerNumbers as answers
@@ -74,6 +68,11 @@ use Rattle.laws.specs.LineForest.{drawn_forest, drawn-steps, drawn-sound, drawn_
 use Rattle.laws.specs.LineAnswers.{LineWrites, LineRefused, sheet-refused, other_refused, refused_other, line_writes, line_refused}
 use Rattle.laws.specs.LineReadsBack.{ReadsBack, text-short, text-reads-back, pattern-reads-back, subscription-reads-back}
 use Rattle.laws.specs.Cases as cases
+use Rattle.meaning.specs.declared.Refusal.TheVariants.{CountOutside, SecondNear, NoRoom, NotThere, NotALine, LabelUnknown, NotWritable}
+use Rattle.meaning.specs.declared.Merged.{Merged}
+use Rattle.meaning.specs.declared.Built.{Built}
+use Rattle.meaning.specs.declared.Tabled.{Tabled}
+use Rattle.meaning.specs.declared.Refusal.{Refusal}
 
 -- ======== 1. "Every call may be given arbitrary bytes and numbers. It ends, reads and writes only inside what it was lent, and
 -- refuses bad input by a fixed number in a fixed order. A refused call gives zeros or an empty part and alters no buffer, save
@@ -86,23 +85,23 @@ use Rattle.laws.specs.Cases as cases
 -- ---- refusals are never 0: where a reading is refused the number is not 0
 
 module _ {A : Type 0} where
-  not_0 : (r : Reader A) → Numbered r → (s : List ℕ) (n : ℕ) → r s ≡ refused n → 1 ≤ n
+  not_0 : (r : Reader A) → Numbered r → (s : List ℕ) (n : Refusal) → r s ≡ refused n → 1 ≤ refusal_number n
   unfolding NotZero
   not_0 r h s n e = rw e at (h.not_zero s)
 
-pub sheet-refusal_not_0 : (s : List ℕ) (n : ℕ) → sheet s ≡ refused n → 1 ≤ n
+pub sheet-refusal_not_0 : (s : List ℕ) (n : Refusal) → sheet s ≡ refused n → 1 ≤ refusal_number n
 sheet-refusal_not_0 = not_0 sheet sheet-numbered
 
-pub document-refusal_not_0 : (sh : Sheet) (d : List ℕ) (n : ℕ) → document sh d ≡ refused n → 1 ≤ n
+pub document-refusal_not_0 : (sh : Sheet) (d : List ℕ) (n : Refusal) → document sh d ≡ refused n → 1 ≤ refusal_number n
 document-refusal_not_0 sh = not_0 (document sh) (document-numbered sh)
 
-pub table-refusal_not_0 : (sh : Sheet) (t : List ℕ) (n : ℕ) → fair_table sh t ≡ refused n → 1 ≤ n
+pub table-refusal_not_0 : (sh : Sheet) (t : List ℕ) (n : Refusal) → fair_table sh t ≡ refused n → 1 ≤ refusal_number n
 table-refusal_not_0 sh = not_0 (fair_table sh) (fair_table-numbered sh)
 
-pub pattern-refusal_not_0 : (known : ℕ) (p : List ℕ) (n : ℕ) → only_pattern known p ≡ refused n → 1 ≤ n
+pub pattern-refusal_not_0 : (known : ℕ) (p : List ℕ) (n : Refusal) → only_pattern known p ≡ refused n → 1 ≤ refusal_number n
 pattern-refusal_not_0 known = not_0 (only_pattern known) (only_pattern-numbered known)
 
-pub program_refusal_not_0 : (s : List ℕ) (n : ℕ) → asking s ≡ refused n → 1 ≤ n
+pub program_refusal_not_0 : (s : List ℕ) (n : Refusal) → asking s ≡ refused n → 1 ≤ refusal_number n
 program_refusal_not_0 = not_0 asking asking-numbered
 
 -- so number 0 means that all was read
@@ -174,18 +173,18 @@ module _ (s : List ℕ) where
   pub covers-refused : (i j : ℕ) (g : Given Bool) → CoversGives s i j g → 1 ≤ g.number → g ≡ refusal g.number false
   covers-refused = answers.covers_zeros s
 
-  pub merge-refused : (i j : ℕ) (found : List ℕ) (g : Given MergeValues) (left : List ℕ) → MergeGives s i j found g left → 1 ≤ g.number
+  pub merge-refused : (i j : ℕ) (found : List ℕ) (g : Given Merged) (left : List ℕ) → MergeGives s i j found g left → 1 ≤ g.number
       → (g ≡ refusal g.number (record { length = 0; clipped = false })) × (left ≡ found)
   merge-refused = answers.merge_zeros s
 
-  pub build-refused : (limit : ℕ) (found : List ℕ) (g : Given BuildValues) (left : List ℕ) → BuildGives s limit found g left → 1 ≤ g.number
+  pub build-refused : (limit : ℕ) (found : List ℕ) (g : Given Built) (left : List ℕ) → BuildGives s limit found g left → 1 ≤ g.number
       → (g ≡ refusal g.number (record { length = 0; rounds = 0 })) × (left ≡ found)
   build-refused = answers.build_zeros s
 
   pub plain_route-refused : (d : List ℕ) (g : Given ℕ) → PlainRouteGives s d g → 1 ≤ g.number → g ≡ refusal g.number 0
   plain_route-refused = answers.plain_route_zeros s
 
-  pub table_route-refused : (t d : List ℕ) (g : Given RouteValues) → TableRouteGives s t d g → 1 ≤ g.number
+  pub table_route-refused : (t d : List ℕ) (g : Given Tabled) → TableRouteGives s t d g → 1 ≤ g.number
       → g ≡ refusal g.number (record { set = 0; tried = 0 })
   table_route-refused = answers.table_route_zeros s
 
@@ -206,7 +205,7 @@ module _ (s : List ℕ) where
   read_line-refused = answers.read_line_zeros s
 
   pub place_with_13 : (line found : List ℕ) (g : Given LineValues) (left : List ℕ) → ReadLineGives s line found g left
-      → (g.values.place ≤ longest_line) × ((g.number ≡ not_a_line → ⊥) → g.values.place ≡ 0)
+      → (g.values.place ≤ longest_line) × ((g.number ≡ refusal_number NotALine → ⊥) → g.values.place ≡ 0)
   place_with_13 = answers.read_line-place s
 
   pub label-refused : (d : List ℕ) (n : ℕ) → 1 ≤ label_number s d n → label_part s d n ≡ []
@@ -239,10 +238,10 @@ module _ (s left : List ℕ) (sh : Sheet) (was_read : sheet s ≡ read sh left) 
 -- the same document defines."
 
 -- yes, and it holds; or no, and it doesn't
-abbrev pub Decided : Asked → Type 0 → Type 0
-Decided answer Holds = ((answer ≡ asked.Said true) × Holds) ⊎ ((answer ≡ asked.Said false) × (Holds → ⊥))
+abbrev pub Decided : Result Bool Refusal → Type 0 → Type 0
+Decided answer Holds = ((answer ≡ Ok true) × Holds) ⊎ ((answer ≡ Ok false) × (Holds → ⊥))
 
-decided : (answer : Asked) (said : Bool) (Holds : Type 0) → answer ≡ asked.Said said → (said ≡ true) ↔ Holds → Decided answer Holds
+decided : (answer : Result Bool Refusal) (said : Bool) (Holds : Type 0) → answer ≡ Ok said → (said ≡ true) ↔ Holds → Decided answer Holds
 decided answer true Holds e both = inl (e, both.0 refl)
 decided answer false Holds e both = inr (e, λ h. not_both false (both.1 h) refl)
 
@@ -280,7 +279,7 @@ module _ (s left : List ℕ) (sh : Sheet) (was_read : sheet s ≡ read sh left) 
         (read-by_bytes s left sh was_read d rest dc doc-read i there)
 
     -- a number that doesn't exist is refused by 11
-    pub matching-not_there : (i : ℕ) → is_subscription sh i ≡ false → matches_answer s d i ≡ asked.Refused not_there
+    pub matching-not_there : (i : ℕ) → is_subscription sh i ≡ false → matches_answer s d i ≡ Err NotThere
     unfolding matches_answer judged pick
     matching-not_there i there = rw (was_read, doc-read, there)
 
@@ -347,8 +346,8 @@ module _ (s left : List ℕ) (sh : Sheet) (was_read : sheet s ≡ read sh left) 
 
 -- both routes deliver one set: the plain route's, whose bits `delivered` explains; the tries are those of the definition
 pub record SameRoute (s t d : List ℕ) (sh : Sheet) (es : List Entry) (dc : Document) : Type 0 where
-  pub plain : plain_answer s d ≡ routed.Delivered (plain_route dc.nodes sh.patterns)
-  pub by_table_lem : table_answer s t d ≡ tabled.Delivered (plain_route dc.nodes sh.patterns) (tried dc.nodes es sh.patterns)
+  pub plain : plain_answer s d ≡ Ok (plain_route dc.nodes sh.patterns)
+  pub by_table_lem : table_answer s t d ≡ Ok (record { set = plain_route dc.nodes sh.patterns; tried = tried dc.nodes es sh.patterns })
 
 -- whenever the sheet, the table and the document have number 0. That members are asked only where their entry matches is the
 -- contract of the route in code, which asks by the try alone, and `tried` counts it
@@ -436,28 +435,28 @@ pub off_at_lem : (line : List ℕ) (i : ℕ) → (read_line line ≡ off_at i) �
 off_at_lem line i = (refused-place line i, place-refused line i)
 
 -- a sheet that is refused comes first
-pub line-after-sheet : (s line : List ℕ) (n : ℕ) → sheet s ≡ refused n → LineRefused s line n 0
+pub line-after-sheet : (s line : List ℕ) (n : Refusal) → sheet s ≡ refused n → LineRefused s line n 0
 line-after-sheet = sheet-refused
 
 module _ (s left : List ℕ) (sh : Sheet) (was_read : sheet s ≡ read sh left) where
   -- 13 comes for those bytes alone, and with that place
-  pub not_a_line_lem : (line : List ℕ) (i : ℕ) (out : List ℕ) → (line_answer out s line ≡ lined.Refused not_a_line i) ↔ RefusedAt line i
+  pub not_a_line_lem : (line : List ℕ) (i : ℕ) (out : List ℕ) → (line_answer out s line ≡ Err (record { why = NotALine; place = i })) ↔ RefusedAt line i
   not_a_line_lem line i out = (refused_other s left sh was_read line out i, λ h. (other_refused s left sh was_read line i h).answer out)
 
   -- ---- a line, with a sheet's labels
   module _ (line : List ℕ) (t : Sketch) (is-line : Line line t) (short : length line ≤ longest_line) where
     -- 14: a label is unknown
-    pub label_unknown_lem : every (known_drawn sh.labels) (steps_drawn t) ≡ false → LineRefused s line label_unknown 0
-    label_unknown_lem h = line_refused s left sh was_read line t is-line short label_unknown (drawn_unknown sh.labels t h)
+    pub label_unknown_lem : every (known_drawn sh.labels) (steps_drawn t) ≡ false → LineRefused s line LabelUnknown 0
+    label_unknown_lem h = line_refused s left sh was_read line t is-line short LabelUnknown (drawn_unknown sh.labels t h)
 
     -- then 5: there are over 16 steps
-    pub too_many-steps : every (known_drawn sh.labels) (steps_drawn t) ≡ true → most_steps < drawn_size t → LineRefused s line count_outside 0
-    too_many-steps known many = line_refused s left sh was_read line t is-line short count_outside (drawn-many sh.labels t known many)
+    pub too_many-steps : every (known_drawn sh.labels) (steps_drawn t) ≡ true → most_steps < drawn_size t → LineRefused s line CountOutside 0
+    too_many-steps known many = line_refused s left sh was_read line t is-line short CountOutside (drawn-many sh.labels t known many)
 
     -- then 9: there is a second near step with parent 0
     pub second_near_lem : every (known_drawn sh.labels) (steps_drawn t) ≡ true → drawn_size t ≤ most_steps → 1 < nears (drawn_forest sh.labels t)
-        → LineRefused s line second_near 0
-    second_near_lem known few two = line_refused s left sh was_read line t is-line short second_near (drawn-nears sh.labels t known few two)
+        → LineRefused s line SecondNear 0
+    second_near_lem known few two = line_refused s left sh was_read line t is-line short SecondNear (drawn-nears sh.labels t known few two)
 
     -- otherwise what is written, or 10 where there is no room for it, is the pattern of its steps, which passes the check
     pub line_as_pattern : every (known_drawn sh.labels) (steps_drawn t) ≡ true → drawn_size t ≤ most_steps → nears (drawn_forest sh.labels t) ≤ 1
@@ -472,49 +471,49 @@ module _ (s left : List ℕ) (sh : Sheet) (was_read : sheet s ≡ read sh left) 
     )
 
 -- ---- steps are written as text in 01's form, or refused. A sheet that is refused comes first
-pub pattern-after-sheet : (s p : List ℕ) (n : ℕ) → sheet s ≡ refused n → pattern_writing s p ≡ refuses n
+pub pattern-after-sheet : (s p : List ℕ) (n : Refusal) → sheet s ≡ refused n → pattern_writing s p ≡ refuses n
 unfolding pattern_writing judged
 pattern-after-sheet s p n h = rw h
 
-pub subscription-after-sheet : (s : List ℕ) (i n : ℕ) → sheet s ≡ refused n → subscription_writing s i ≡ refuses n
+pub subscription-after-sheet : (s : List ℕ) (i : ℕ) (n : Refusal) → sheet s ≡ refused n → subscription_writing s i ≡ refuses n
 unfolding subscription_writing judged
 subscription-after-sheet s i n h = rw h
 
 module _ (s left : List ℕ) (sh : Sheet) (was_read : sheet s ≡ read sh left) where
   -- then a pattern whose bytes are refused, with their number
-  pub writing_bytes-refused : (p : List ℕ) (n : ℕ) → only_pattern (length sh.labels) p ≡ refused n → pattern_writing s p ≡ refuses n
+  pub writing_bytes-refused : (p : List ℕ) (n : Refusal) → only_pattern (length sh.labels) p ≡ refused n → pattern_writing s p ≡ refuses n
   unfolding pattern_writing judged
   writing_bytes-refused p n h = rw (was_read, h)
 
   -- or the number of a subscription that doesn't exist: 11
-  pub writing_not_there : (i : ℕ) → is_subscription sh i ≡ false → subscription_writing s i ≡ refuses not_there
+  pub writing_not_there : (i : ℕ) → is_subscription sh i ≡ false → subscription_writing s i ≡ refuses NotThere
   unfolding subscription_writing judged pick
   writing_not_there i there = rw (was_read, there)
 
   -- then 15, where a label is not writable; otherwise the text is to be written
   pub writing_pattern : (p rest : List ℕ) (f : Forest) → only_pattern (length sh.labels) p ≡ read f rest
-      → pattern_writing s p ≡ pick (every (step_writable sh.labels) (steps_of f)) (writes tt (pattern_text sh.labels f)) (refuses not_writable)
+      → pattern_writing s p ≡ pick (every (step_writable sh.labels) (steps_of f)) (writes tt (pattern_text sh.labels f)) (refuses NotWritable)
   unfolding pattern_writing text_writing judged
   writing_pattern p rest f pattern-read = rw (was_read, pattern-read)
 
   pub writing_subscription : (i : ℕ) → is_subscription sh i ≡ true → (let f = subscription sh i in
-      subscription_writing s i ≡ pick (every (step_writable sh.labels) (steps_of f)) (writes tt (pattern_text sh.labels f)) (refuses not_writable))
+      subscription_writing s i ≡ pick (every (step_writable sh.labels) (steps_of f)) (writes tt (pattern_text sh.labels f)) (refuses NotWritable))
   unfolding subscription_writing text_writing judged pick
   writing_subscription i there = rw (was_read, there)
 
 -- room is judged last: what is refused before is refused by that number, whatever the output
 module _ (w : Writing (Unit {0})) (out : List ℕ) where
-  pub refused-before-room : (n : ℕ) → w ≡ refuses n → output_answer (with_room out w) ≡ output.Refused n
+  pub refused-before-room : (n : Refusal) → w ≡ refuses n → output_answer (with_room out w) ≡ Err n
   unfolding with_room output_answer
   refused-before-room n h = rw h
 
   -- the text is written where there is room for it
-  pub written-with_room : (text : List ℕ) → w ≡ writes tt text → length text ≤ length out → output_answer (with_room out w) ≡ output.Wrote (length text)
+  pub written-with_room : (text : List ℕ) → w ≡ writes tt text → length text ≤ length out → output_answer (with_room out w) ≡ Ok (length text)
   unfolding with_room output_answer pick
   written-with_room text h room = rw (h, le-leb (length text) (length out) room)
 
   -- and otherwise 10
-  pub writing_no_room : (text : List ℕ) → w ≡ writes tt text → length out < length text → output_answer (with_room out w) ≡ output.Refused no_room
+  pub writing_no_room : (text : List ℕ) → w ≡ writes tt text → length out < length text → output_answer (with_room out w) ≡ Err NoRoom
   unfolding with_room output_answer pick
   writing_no_room text h short = rw (h, lt-leb (length text) (length out) short)
 
@@ -580,11 +579,11 @@ pub covers_of_covers : (a b c : Forest) → covers a b ≡ true → covers b c �
 covers_of_covers = covers_trans
 
 -- so it is with the answers, for any bytes at all: where subscription i covers j, every document that satisfies j satisfies i
-pub answers_lose_none : (s d : List ℕ) (i j : ℕ) → covers_answer s i j ≡ asked.Said true → matches_answer s d j ≡ asked.Said true
-    → matches_answer s d i ≡ asked.Said true
+pub answers_lose_none : (s d : List ℕ) (i j : ℕ) → covers_answer s i j ≡ Ok true → matches_answer s d j ≡ Ok true
+    → matches_answer s d i ≡ Ok true
 answers_lose_none = answered.answers_lose_none
 
 -- and where i covers j and j covers k, i covers k
-pub answers_of_covers : (s : List ℕ) (i j k : ℕ) → covers_answer s i j ≡ asked.Said true → covers_answer s j k ≡ asked.Said true
-    → covers_answer s i k ≡ asked.Said true
+pub answers_of_covers : (s : List ℕ) (i j k : ℕ) → covers_answer s i j ≡ Ok true → covers_answer s j k ≡ Ok true
+    → covers_answer s i k ≡ Ok true
 answers_of_covers = answered.answers_of_covers

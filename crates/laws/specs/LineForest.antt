@@ -8,7 +8,7 @@ use mathlib.Core.List.{List, ◌∷◌, ◌++◌, flat_map, map, map-append}
 use borrow.Author.Tests.{le-leb, lt-leb}
 use Rattle.base.specs.Choice.{pick}
 use Rattle.base.specs.Lists.{every}
-use Rattle.meaning.specs.Numbers.{count_outside, second_near, label_unknown, most_steps}
+use Rattle.meaning.specs.Numbers.{most_steps}
 use Rattle.meaning.specs.Forest.{axis_number, Forest, none, step, size, steps_from, steps_of}
 use Rattle.meaning.specs.Written.{step_bytes, steps_bytes, pattern_bytes}
 use Rattle.meaning.specs.Notation.{Sketch, blank, draw, drawn_size, drawn_from, steps_drawn}
@@ -20,6 +20,7 @@ use Rattle.laws.specs.MergeLabels.{LabelsWithin}
 use Rattle.laws.specs.MergeNears.{nears}
 use Rattle.laws.specs.SoundPatterns.{SoundPattern, nears-counted}
 use Rattle.laws.specs.NameNumbers.{name-low}
+use Rattle.meaning.specs.declared.Refusal.TheVariants.{CountOutside, SecondNear, LabelUnknown}
 
 -- the pattern that is drawn: each name by its number
 unfoldable pub drawn_forest : List (List ℕ) → Sketch → Forest
@@ -70,18 +71,18 @@ module _ (ls : List (List ℕ)) where
 
 module _ (ls : List (List ℕ)) (t : Sketch) where
   -- not all its labels are the sheet's
-  pub drawn_unknown : every (known_drawn ls) (steps_drawn t) ≡ false → drawn_writing ls (steps_drawn t) ≡ refuses label_unknown
+  pub drawn_unknown : every (known_drawn ls) (steps_drawn t) ≡ false → drawn_writing ls (steps_drawn t) ≡ refuses LabelUnknown
   unfolding drawn_writing in_order pick
   drawn_unknown k = rw k
 
   -- they are, and there are more than 16 steps
-  pub drawn-many : every (known_drawn ls) (steps_drawn t) ≡ true → most_steps < drawn_size t → drawn_writing ls (steps_drawn t) ≡ refuses count_outside
+  pub drawn-many : every (known_drawn ls) (steps_drawn t) ≡ true → most_steps < drawn_size t → drawn_writing ls (steps_drawn t) ≡ refuses CountOutside
   unfolding drawn_writing in_order pick
   drawn-many k many = rw (k, drawn-steps ls t, length-steps_of (drawn_forest ls t), drawn_size_lem ls t, lt-leb (drawn_size t) most_steps many)
 
   -- there are at most 16, and more than one root step is near
   pub drawn-nears : every (known_drawn ls) (steps_drawn t) ≡ true → drawn_size t ≤ most_steps → 1 < nears (drawn_forest ls t)
-      → drawn_writing ls (steps_drawn t) ≡ refuses second_near
+      → drawn_writing ls (steps_drawn t) ≡ refuses SecondNear
   unfolding drawn_writing in_order pick
   drawn-nears k few two =
       rw (

@@ -3,7 +3,6 @@ use Rattle.std.specs.Prelude.{ℕ, ◌≡◌, refl, Bool, true, false, List, [],
 use Rattle.std.proofs.Common.{true≢false, arith, take_at, pow_mono}
 use Rattle.std.proofs.Math.Nat.{lt_of_lt_of_le}
 use Rattle.base.specs.Choice.{pick}
-use Rattle.meaning.specs.Numbers.{no_room}
 use Rattle.meaning.specs.Reader.{read, go_on, ◌>>=◌, ◌>>◌, give, unless, number_of}
 use Rattle.meaning.specs.Sections.{Sheet, sheet}
 use Rattle.meaning.specs.Building.{build}
@@ -14,6 +13,7 @@ use Rattle.laws.specs.Readers.{judged-written}
 use Rattle.laws.specs.Fairness.{build-fair}
 use Rattle.laws.specs.EveryEntry.{EachPattern, build_steps, build-labels, build-nears, build-length, build-members}
 use Rattle.laws.specs.RoundTrip.{sheet-read, SoundTable, table_again}
+use Rattle.meaning.specs.declared.Refusal.TheVariants.{NoRoom}
 
 module _ (s left : List ℕ) (sh : Sheet) (was_read : sheet s ≡ read sh left) (limit : ℕ) where
   -- its entries are few, their members fit, and their patterns are sound beside the sheet
@@ -56,7 +56,7 @@ pub output_passes : (s : List ℕ) (limit : ℕ) (out : List ℕ) → (let w = w
 unfolding with_room after build_answer built_given refusal gives pick
 output_passes s limit out = go (build_writing s limit) refl
   where
-    room : (rounds : ℕ) (bytes : List ℕ) → table_number s bytes ≡ 0 → (fits : Bool) → (let w = pick fits (writes rounds bytes) (refuses no_room) in
+    room : (rounds : ℕ) (bytes : List ℕ) → table_number s bytes ≡ 0 → (fits : Bool) → (let w = pick fits (writes rounds bytes) (refuses NoRoom) in
         (built_given (build_answer w)).refused ≡ false → table_number s (take (built_given (build_answer w)).values.length (after out w)) ≡ 0)
     room rounds bytes p true h = rw (take_at bytes (drop (length bytes) out) (length bytes) refl) p
     room rounds bytes p false h = absurd (true≢false h)

@@ -8,10 +8,11 @@ use Rattle.std.proofs.Common.{arith}
 use Rattle.base.specs.Choice.{pick}
 use Rattle.meaning.specs.Reader.{Reading, read, refused, Reader, go_on, ◌>>=◌, ◌>>◌, give, unless, byte, end}
 use Rattle.meaning.specs.Calls.{judged, Writing, refuses, writes}
+use Rattle.meaning.specs.declared.Refusal.{Refusal}
 
 module _ {A : Type 0} where
   -- a refusal is no reading
-  pub refused_not_read : {n : ℕ} {a : A} {left : List ℕ} → refused n ≡ read a left → ⊥
+  pub refused_not_read : {n : Refusal} {a : A} {left : List ℕ} → refused n ≡ read a left → ⊥
   refused_not_read h = let z : ◌≡◌ {A = ℕ} 0 1 = cc in omega arith
 
   -- a value is given as it is, and nothing is read
@@ -45,14 +46,14 @@ module _ {A B : Type 0} where
 
 module _ {B : Type 0} where
   -- a test held, and reading went on from the same place
-  pub test_read : (n : ℕ) (t : Bool) (next : Reader B) (s : List ℕ) {b : B} {left : List ℕ} → ◌>>◌ (unless n t) next s ≡ read b left
+  pub test_read : (n : Refusal) (t : Bool) (next : Reader B) (s : List ℕ) {b : B} {left : List ℕ} → ◌>>◌ (unless n t) next s ≡ read b left
       → (t ≡ true) × (next s ≡ read b left)
   unfolding ◌>>◌ unless go_on
   test_read n true next s h = (refl, h)
   test_read n false next s h = absurd (refused_not_read h)
 
   -- where the test holds reading goes on
-  pub read-test : (n : ℕ) (t : Bool) (next : Reader B) (s : List ℕ) → t ≡ true → ◌>>◌ (unless n t) next s ≡ next s
+  pub read-test : (n : Refusal) (t : Bool) (next : Reader B) (s : List ℕ) → t ≡ true → ◌>>◌ (unless n t) next s ≡ next s
   unfolding ◌>>◌ unless go_on
   read-test n true next s h = refl
   read-test n false next s h = absurd (false≢true h)
@@ -80,11 +81,11 @@ module _ {B : Type 0} where
 
 module _ {A : Type 0} where
   -- a refusal writes nothing
-  refuses_not_writes : {n : ℕ} {a : A} {bs : List ℕ} → refuses n ≡ writes a bs → ⊥
+  refuses_not_writes : {n : Refusal} {a : A} {bs : List ℕ} → refuses n ≡ writes a bs → ⊥
   refuses_not_writes h = let z : ◌≡◌ {A = ℕ} 0 1 = cc in omega arith
 
   -- the test held
-  pub test-written : (t : Bool) (w : Writing A) (n : ℕ) {a : A} {bs : List ℕ} → pick t w (refuses n) ≡ writes a bs → (t ≡ true) × (w ≡ writes a bs)
+  pub test-written : (t : Bool) (w : Writing A) (n : Refusal) {a : A} {bs : List ℕ} → pick t w (refuses n) ≡ writes a bs → (t ≡ true) × (w ≡ writes a bs)
   unfolding pick
   test-written true w n h = (refl, h)
   test-written false w n h = absurd (refuses_not_writes h)

@@ -8,12 +8,14 @@ use Rattle.meaning.specs.Calls.{fair_table}
 use Rattle.meaning.specs.LineCalls.{only_pattern}
 use Rattle.meaning.specs.Printing.{asking}
 use Rattle.meaning.specs.declared.Step.{Step}
+use Rattle.meaning.specs.Numbers.{refusal_number}
+use Rattle.meaning.specs.declared.Refusal.{Refusal}
 
 module _ {A : Type 0} where
   -- a refusal's number is not 0
   unfoldable pub NotZero : Reading A → Type 0
   NotZero (read a left) = Unit {0}
-  NotZero (refused n) = 1 ≤ n
+  NotZero (refused why) = 1 ≤ refusal_number why
 
   -- whatever the bytes
   pub record Numbered (r : Reader A) : Type 0 where
@@ -46,7 +48,7 @@ module _ {A : Type 0} where
   repeats (suc n) h = with_value h λ a. with_value (repeats n h) λ later. given _
 
 -- a test, with the number of its fault
-test : (n : ℕ) (t : Bool) → 1 ≤ n → Numbered (unless n t)
+test : (n : Refusal) (t : Bool) → 1 ≤ refusal_number n → Numbered (unless n t)
 unfolding NotZero unless
 test n true h = record { not_zero = λ s. tt }
 test n false h = record { not_zero = λ s. h }

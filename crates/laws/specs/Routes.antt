@@ -13,7 +13,6 @@ use mathlib.Core.List.{List, [], ◌∷◌, map, Memᴰ}
 use Rattle.base.specs.Bools.{and_first, and_second, and_both, both_ways, not_both, true_or_false}
 use Rattle.base.specs.Lists.{some}
 use Rattle.base.specs.ListLaws.{some_of, keep-gives}
-use Rattle.meaning.specs.Numbers.{not_fair}
 use Rattle.meaning.specs.Reader.{read}
 use Rattle.base.specs.Mapping.{get_or-map_there}
 use Rattle.meaning.specs.Forest.{Forest, none}
@@ -28,6 +27,7 @@ use Rattle.laws.specs.Documents.{covering_loses_none}
 use Rattle.laws.specs.Readers.{give-read, bind_read, test_read}
 use Rattle.laws.specs.MemberBits.{member_delivery}
 use Rattle.laws.specs.InOneEntry.{fair-gives}
+use Rattle.meaning.specs.declared.Refusal.TheVariants.{NotFair}
 
 -- the entry in which a subscription stands
 pub entry_of : (p : Forest) (ks : List Entry) → one_that_covers p ks ≡ true → (e : Entry) × Memᴰ e ks × (covers e.pattern p ≡ true)
@@ -94,7 +94,7 @@ pub fair_table-fair : (sh : Sheet) (t left : List ℕ) (es : List Entry) → fai
 unfolding fair_table
 fair_table-fair sh t left es h =
     let r = bind_read (table sh) _ t es left h in
-    let judge = test_read not_fair (fair sh.patterns r.value) _ r.middle r.after in
+    let judge = test_read NotFair (fair sh.patterns r.value) _ r.middle r.after in
     ap (fair sh.patterns) (sym (give-read r.value r.middle judge.1).0) ∙ judge.0
 
 -- bit i of the plain route is set exactly if there is a pattern i, and the document satisfies it

@@ -11,10 +11,11 @@ use Rattle.meaning.specs.Calls.{judged, fair_table, three_judged}
 use Rattle.laws.specs.Rising.{Rising}
 use Rattle.laws.specs.JudgingGives.{document_rises}
 use Rattle.laws.specs.Routes.{fair_table-fair}
+use Rattle.meaning.specs.declared.Refusal.{Refusal}
 
-module _ {B C : Type 0} (f : B → C) {refuse : ℕ → B} {refuse' : ℕ → C}
+module _ {B C : Type 0} (f : B → C) {refuse : Refusal → B} {refuse' : Refusal → C}
     {next : Sheet → List Entry → Document → B} {next' : Sheet → List Entry → Document → C}
-    (refuses : (n : ℕ) → f (refuse n) ≡ refuse' n)
+    (refuses : (n : Refusal) → f (refuse n) ≡ refuse' n)
     (follows : (sh : Sheet) (es : List Entry) (dc : Document) → fair sh.patterns es ≡ true → Rising (parents_of dc.nodes)
     → f (next sh es dc) ≡ next' sh es dc)
     (s t d : List ℕ) where

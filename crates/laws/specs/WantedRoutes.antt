@@ -1,7 +1,7 @@
 -- Does anyone want it: asking until the answer comes tells whether the route by the table is 0, for any table, and so whether the
 -- plain route is, for a fair one. It takes no more tries than the route.
 use Prim.Native.Nat.{ℕ, zero, suc, ◌+◌, ◌*◌, ◌≤◌, ◌<◌}
-use Rattle.std.specs.Prelude.{◌≡◌, ◌↔◌, Bool, ◌||◌, eqb, get_or}
+use Rattle.std.specs.Prelude.{◌≡◌, ◌↔◌, Bool, ◌||◌, eqb, get_or, Result, Ok, Err}
 use Rattle.std.proofs.Math.Path.{refl, sym, ap}
 use Rattle.std.proofs.Common.{◌∙◌, true≢false, arith, ne_eqb}
 use Rattle.std.proofs.Math.Bool.{true, false, not}
@@ -20,13 +20,11 @@ use Rattle.meaning.specs.Fair.{is_member, has_member, fair}
 use Rattle.meaning.specs.Routing.{delivery_set, plain_route, members_of, matches_for, delivered_from, table_route, tried_for, tried}
 use Rattle.meaning.specs.Routing.{wanted, members_say, answer_comes, until_yes, tried_until_wanted}
 use Rattle.meaning.specs.Calls.{table_answer, wanted_answer}
-use Rattle.meaning.specs.declared.Asked.{Asked}
-use Rattle.meaning.specs.declared.Asked.TheVariants as asked
 use Rattle.meaning.specs.declared.Tabled.{Tabled}
-use Rattle.meaning.specs.declared.Tabled.TheVariants as tabled
 use Rattle.laws.specs.Rising.{Rising}
 use Rattle.laws.specs.Routes.{table_is_plain, delivered-long, delivered_at}
 use Rattle.laws.specs.ThreeParts.{three_map}
+use Rattle.meaning.specs.declared.Refusal.{Refusal}
 
 -- ---- at least one says yes
 
@@ -183,12 +181,12 @@ module _ (ns : List Node) (ps : List Forest) where
 -- ---- on bytes
 
 -- whether the route by a table is not 0; refused where it is
-unfoldable pub route_not_zero : Tabled → Asked
-route_not_zero (tabled.Refused n) = asked.Refused n
-route_not_zero (tabled.Delivered set tried) = asked.Said (not (eqb set 0))
+unfoldable pub route_not_zero : Result Tabled Refusal → Result Bool Refusal
+route_not_zero (Err n) = Err n
+route_not_zero (Ok t) = Ok (not (eqb t.set 0))
 
 -- what is answered is that, for any bytes at all
 pub wanted_by-table : (s t d : List ℕ) → wanted_answer s t d ≡ route_not_zero (table_answer s t d)
 unfolding wanted_answer table_answer route_not_zero
 wanted_by-table s t d =
-    sym (three_map route_not_zero (λ n. refl) (λ sh es dc just up. ap asked.Said (sym (wanted-routed dc.nodes sh.patterns es up just))) s t d)
+    sym (three_map route_not_zero (λ n. refl) (λ sh es dc just up. ap Ok (sym (wanted-routed dc.nodes sh.patterns es up just))) s t d)

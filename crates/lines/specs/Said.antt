@@ -13,7 +13,7 @@ use Rattle.std.proofs.lemmas.List.{length-map}
 use Rattle.base.specs.Choice.{pick, pick_true, pick_false}
 use Rattle.base.specs.Lists.{every, keep}
 use Rattle.base.specs.declared.Cur.TheVariants.{At, No}
-use Rattle.meaning.specs.Numbers.{most_steps, count_outside, second_near, not_a_line, label_unknown}
+use Rattle.meaning.specs.Numbers.{most_steps}
 use Rattle.meaning.specs.Forest.{forest, steps_of}
 use Rattle.meaning.specs.Sections.{is_near_root}
 use Rattle.meaning.specs.Written.{steps_bytes, pattern_bytes}
@@ -35,6 +35,7 @@ use Rattle.reading.specs.SheetSection.{sheet_place}
 use Rattle.reading.specs.SheetJudged.{sheet-said, sheet-refused}
 use Rattle.lines.specs.declared.steps.Found.{Found}
 use Rattle.lines.specs.Found.{count_of, StepsAre, FoundIs}
+use Rattle.meaning.specs.declared.Refusal.TheVariants.{CountOutside, SecondNear, NotALine, LabelUnknown}
 
 -- where there are too many, the steps don't matter
 too_many : (known a b : Bool) (xs ys : List ℕ) → in_order known false a xs ≡ in_order known false b ys
@@ -48,7 +49,7 @@ pattern_said known p = in_order known (leb p.count most_steps) (leb (length (kee
 -- of a line, with these labels
 abbrev pub LineGives : List (List ℕ) → List ℕ → List ℕ → Lined → List ℕ → Type 0
 LineGives ls line out r now =
-    (r ≡ line_judged (read_line line) (lined.Refused not_a_line) (λ ds. drawn_answer (with_room out (drawn_writing ls ds))))
+    (r ≡ line_judged (read_line line) (lined.Refused NotALine) (λ ds. drawn_answer (with_room out (drawn_writing ls ds))))
     × (now ≡ line_judged (read_line line) (λ i. out) (λ ds. after out (with_room out (drawn_writing ls ds))))
 
 -- ---- what was found
@@ -123,16 +124,16 @@ module _ {ls : List (List ℕ)} {ds : List Drawn} {known : Bool} {p : Pattern} (
 -- ---- each refusal, in its order
 
 module _ (known : Bool) (p : Pattern) where
-  pub said_unknown : known ≡ false → refuses label_unknown ≡ pattern_said known p
+  pub said_unknown : known ≡ false → refuses LabelUnknown ≡ pattern_said known p
   unfolding pattern_said in_order
   said_unknown e = pick_false _ _ _ _ e refl
 
-  pub said-many : known ≡ true → most_steps < p.count → refuses count_outside ≡ pattern_said known p
+  pub said-many : known ≡ true → most_steps < p.count → refuses CountOutside ≡ pattern_said known p
   unfolding pattern_said in_order
   said-many e h = pick_true _ _ _ _ e (pick_false _ _ _ _ (lt-leb p.count most_steps h) refl)
 
   module _ (e : known ≡ true) (h : p.count ≤ most_steps) (n : ℕ) (counted : n ≡ length (keep is_near_root (steps_in p))) where
-    pub said-near : 1 < n → refuses second_near ≡ pattern_said known p
+    pub said-near : 1 < n → refuses SecondNear ≡ pattern_said known p
     unfolding pattern_said in_order
     said-near l = pick_true _ _ _ _ e (pick_true _ _ _ _ (le-leb p.count most_steps h) (pick_false _ _ _ _ (lt-leb _ 1 (rw counted at l)) refl))
 
@@ -143,7 +144,7 @@ module _ (known : Bool) (p : Pattern) where
 -- ---- the line, beside a sheet that was judged
 
 module _ (ls : List (List ℕ)) (line out : List ℕ) (f : Found) (found : FoundIs ls (read_line line) f) where
-  pub line_off : f.sound ≡ false → LineGives ls line out (lined.Refused not_a_line f.place) out
+  pub line_off : f.sound ≡ false → LineGives ls line out (lined.Refused NotALine f.place) out
   unfolding line_judged
   line_off e = rw (found_off ls (read_line line) f found e) (refl, refl)
 

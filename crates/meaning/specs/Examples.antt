@@ -1,6 +1,6 @@
 -- The smallest examples that tell each definition from an easy misreading of it, as one list under one claim. The edits
 -- in must-fail/ make each misreading, and the claim fails.
-use Rattle.std.specs.Prelude.{ℕ, ◌≡◌, refl, Bool, true, false, replicate}
+use Rattle.std.specs.Prelude.{Result, Ok, Err, ℕ, ◌≡◌, refl, Bool, true, false, replicate}
 use mathlib.Core.List.{List, [], ◌∷◌, ◌++◌, map, flat_map}
 use Rattle.base.specs.Choice.{pick}
 use Rattle.base.specs.Lists.{some, every, keep, total, without, numbers_from}
@@ -22,14 +22,13 @@ use Rattle.meaning.specs.LabelBytes.{labels_of, is_label}
 use Rattle.meaning.specs.Written.{step_bytes, pattern_bytes}
 use Rattle.meaning.specs.Calls.{judged, fair_table, three_judged, is_subscription, subscription, sheet_number, document_number, table_number}
 use Rattle.meaning.specs.Calls.{matches_answer, wanted_answer, with_room, after, merge_writing, merge_answer, label_number}
-use Rattle.meaning.specs.Given.{Given, refusal, gives, by_number, asked_given, RouteValues, tabled_given}
+use Rattle.meaning.specs.Given.{Given, refusal, gives, by_number, asked_given, tabled_given}
 use Rattle.meaning.specs.PatternText.{ascii}
 use Rattle.meaning.specs.RoseBench.{sheet_r, slash, slashes, a, b, c, star}
-use Rattle.meaning.specs.declared.Asked.{Asked}
-use Rattle.meaning.specs.declared.Asked.TheVariants as asked
 use Rattle.meaning.specs.declared.Merged.{Merged}
-use Rattle.meaning.specs.declared.Tabled.TheVariants as tabled
-use Rattle.meaning.specs.declared.Merged.TheVariants as merged
+use Rattle.meaning.specs.declared.Tabled.{Tabled}
+use Rattle.meaning.specs.declared.Refusal.{Refusal}
+use Rattle.meaning.specs.declared.Refusal.TheVariants.{BytesRemain, EndsEarly, NoRoom, NotFair, NotThere}
 
 -- ---- documents, as parent and label of each node
 
@@ -272,7 +271,7 @@ sheet_b = 2 ∷ 1 ∷ 65 ∷ 1 ∷ 66 ∷ 1 ∷ 1 ∷ 0 ∷ 0 ∷ 2 ∷ []
 unfoldable pub table_a : ℕ → List ℕ
 table_a members = 1 ∷ members ∷ 0 ∷ 0 ∷ 0 ∷ 0 ∷ 0 ∷ 0 ∷ 0 ∷ 0 ∷ []
 
-unfoldable pub asks : List Asked
+unfoldable pub asks : List (Result Bool Refusal)
 asks =
     -- the document is judged before the number asked for
     matches_answer sheet_a [] 1
@@ -289,16 +288,16 @@ asks =
 
 -- what is given with yes, and with a refusal
 unfoldable pub asked_givens : List (Given Bool)
-asked_givens = asked_given (asked.Said true) ∷ asked_given (asked.Refused 12) ∷ []
+asked_givens = asked_given (Ok true) ∷ asked_given (Err NotFair) ∷ []
 
 -- the merge of the pattern without steps with itself takes one byte
-unfoldable pub merges_into : List ℕ → Merged
+unfoldable pub merges_into : List ℕ → Result Merged Refusal
 merges_into out = merge_answer (with_room out (merge_writing sheet_a 0 0))
 
 unfoldable pub leaves : List ℕ → List ℕ
 leaves out = after out (with_room out (merge_writing sheet_a 0 0))
 
-unfoldable pub writings : List Merged
+unfoldable pub writings : List (Result Merged Refusal)
 writings =
     -- no room, just enough, and more
     merges_into []
@@ -307,8 +306,8 @@ writings =
     ∷ []
 
 -- what is given in each case: whether it is refused, the number and the values
-unfoldable pub givens : List (Given RouteValues)
-givens = tabled_given (tabled.Refused 12) ∷ tabled_given (tabled.Delivered 5 4) ∷ by_number 0 (record { set = 5; tried = 4 }) ∷ []
+unfoldable pub givens : List (Given Tabled)
+givens = tabled_given (Err NotFair) ∷ tabled_given (Ok (record { set = 5; tried = 4 })) ∷ by_number 0 (record { set = 5; tried = 4 }) ∷ []
 
 -- bytes behind the written part are as found
 unfoldable pub outputs : List (List ℕ)
@@ -325,11 +324,11 @@ pub record All : Type 0 where
   pub tries : ℕ
   pub wants : List Bool
   pub untils : List ℕ
-  pub asks : List Asked
+  pub asks : List (Result Bool Refusal)
   pub asked_givens : List (Given Bool)
-  pub writings : List Merged
+  pub writings : List (Result Merged Refusal)
   pub outputs : List (List ℕ)
-  pub givens : List (Given RouteValues)
+  pub givens : List (Given Tabled)
 
 unfoldable pub answers : All
 answers = record {
@@ -362,9 +361,9 @@ expected = record {
   tries = 4;
   wants = true ∷ true ∷ false ∷ false ∷ [];
   untils = 2 ∷ 5 ∷ 6 ∷ 6 ∷ [];
-  asks = asked.Refused 1 ∷ asked.Refused 11 ∷ asked.Said true ∷ asked.Said true ∷ asked.Said false ∷ asked.Refused 2 ∷ asked.Refused 2 ∷ asked.Refused 12 ∷ [];
+  asks = Err EndsEarly ∷ Err NotThere ∷ Ok true ∷ Ok true ∷ Ok false ∷ Err BytesRemain ∷ Err BytesRemain ∷ Err NotFair ∷ [];
   asked_givens = record { refused = false; number = 0; values = true } ∷ record { refused = true; number = 12; values = false } ∷ [];
-  writings = merged.Refused 10 ∷ merged.Wrote 1 false ∷ merged.Wrote 1 false ∷ [];
+  writings = Err NoRoom ∷ Ok (record { length = 1; clipped = false }) ∷ Ok (record { length = 1; clipped = false }) ∷ [];
   outputs = [] ∷ (0 ∷ []) ∷ (0 ∷ 8 ∷ 9 ∷ []) ∷ [];
   givens =
       record { refused = true; number = 12; values = record { set = 0; tried = 0 } }

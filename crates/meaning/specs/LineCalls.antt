@@ -1,8 +1,8 @@
 -- The calls for lines of the notation: a line read with a sheet's labels, a pattern and a subscription written as a line.
-use Rattle.std.specs.Prelude.{ℕ, suc, Bool, true, List, [], ◌∷◌, map, leb, length}
+use Rattle.std.specs.Prelude.{ℕ, Result, Ok, Err, suc, Bool, true, List, [], ◌∷◌, map, leb, length}
 use Rattle.base.specs.Choice.{pick}
 use Rattle.base.specs.Lists.{some, every, keep}
-use Rattle.meaning.specs.Numbers.{count_outside, second_near, not_there, not_a_line, label_unknown, not_writable, most_steps}
+use Rattle.meaning.specs.Numbers.{most_steps}
 use Rattle.meaning.specs.Reader.{Reader, ◌>>=◌, ◌>>◌, give, end}
 use Rattle.meaning.specs.Forest.{axis_number, Forest, steps_of}
 use Rattle.meaning.specs.Sections.{same_label, is_near_root, pattern, sheet}
@@ -13,10 +13,9 @@ use Rattle.meaning.specs.Notation.{writable, Name, any, called, Drawn}
 use Rattle.meaning.specs.Lines.{LineRead, off_at, draws, read_line}
 use Rattle.meaning.specs.Calls.{judged, is_subscription, subscription, Writing, refuses, writes, with_room, after}
 use Rattle.meaning.specs.declared.Step.{Step}
-use Rattle.meaning.specs.declared.Lined.{Lined}
-use Rattle.meaning.specs.declared.Lined.TheVariants as lined
-use Rattle.meaning.specs.declared.Output.{Output}
-use Rattle.meaning.specs.declared.Output.TheVariants as output
+use Rattle.meaning.specs.declared.LineRefusal.{LineRefusal}
+use Rattle.meaning.specs.declared.Refusal.{Refusal}
+use Rattle.meaning.specs.declared.Refusal.TheVariants.{CountOutside, SecondNear, NotThere, NotALine, LabelUnknown, NotWritable}
 
 -- ---- what is drawn, with a sheet's labels
 
@@ -48,9 +47,9 @@ unfoldable pub in_order : Bool → Bool → Bool → List ℕ → Writing (Unit 
 in_order known few lone bytes =
     pick known
     (pick few
-    (pick lone (writes tt bytes) (refuses second_near))
-    (refuses count_outside))
-    (refuses label_unknown)
+    (pick lone (writes tt bytes) (refuses SecondNear))
+    (refuses CountOutside))
+    (refuses LabelUnknown)
 
 unfoldable pub drawn_writing : List (List ℕ) → List Drawn → Writing (Unit {0})
 drawn_writing ls ds =
@@ -64,23 +63,23 @@ module _ {B : Type 0} where
   line_judged (draws ds) off next = next ds
 
   -- sheet and line are judged in this order: a refusal, with the place where the line is off and otherwise 0, or what follows
-  unfoldable pub line_then : (ℕ → ℕ → B) → (Writing (Unit {0}) → B) → List ℕ → List ℕ → B
+  unfoldable pub line_then : (Refusal → ℕ → B) → (Writing (Unit {0}) → B) → List ℕ → List ℕ → B
   line_then refuse next s line =
-      judged (sheet s) (λ n. refuse n 0) (λ sh.
-      line_judged (read_line line) (refuse not_a_line) (λ ds.
+      judged (sheet s) (λ why. refuse why 0) (λ sh.
+      line_judged (read_line line) (refuse NotALine) (λ ds.
       next (drawn_writing sh.labels ds)))
 
-unfoldable pub drawn_answer : Writing (Unit {0}) → Lined
-drawn_answer (refuses n) = lined.Refused n 0
-drawn_answer (writes u bs) = lined.Wrote (length bs)
+unfoldable pub drawn_answer : Writing (Unit {0}) → Result ℕ LineRefusal
+drawn_answer (refuses why) = Err (record { why = why; place = 0 })
+drawn_answer (writes u bs) = Ok (length bs)
 
 -- room is judged last
-unfoldable pub line_answer : List ℕ → List ℕ → List ℕ → Lined
-line_answer out = line_then lined.Refused (λ w. drawn_answer (with_room out w))
+unfoldable pub line_answer : List ℕ → List ℕ → List ℕ → Result ℕ LineRefusal
+line_answer out = line_then (λ why place. Err (record { why = why; place = place })) (λ w. drawn_answer (with_room out w))
 
 -- the output afterwards
 unfoldable pub line_output : List ℕ → List ℕ → List ℕ → List ℕ
-line_output out = line_then (λ n i. out) (λ w. after out (with_room out w))
+line_output out = line_then (λ why i. out) (λ w. after out (with_room out w))
 
 -- ---- a pattern written as a line
 
@@ -89,7 +88,7 @@ unfoldable pub step_writable : List (List ℕ) → Step → Bool
 step_writable ls s = writable (label_at ls s.label)
 
 unfoldable pub text_writing : List (List ℕ) → Forest → Writing (Unit {0})
-text_writing ls f = pick (every (step_writable ls) (steps_of f)) (writes tt (pattern_text ls f)) (refuses not_writable)
+text_writing ls f = pick (every (step_writable ls) (steps_of f)) (writes tt (pattern_text ls f)) (refuses NotWritable)
 
 -- the bytes of a pattern, and no more
 unfoldable pub only_pattern : ℕ → Reader Forest
@@ -107,8 +106,8 @@ pattern_writing s p =
 unfoldable pub subscription_writing : List ℕ → ℕ → Writing (Unit {0})
 subscription_writing s i =
     judged (sheet s) refuses (λ sh.
-    pick (is_subscription sh i) (text_writing sh.labels (subscription sh i)) (refuses not_there))
+    pick (is_subscription sh i) (text_writing sh.labels (subscription sh i)) (refuses NotThere))
 
-unfoldable pub output_answer : Writing (Unit {0}) → Output
-output_answer (refuses n) = output.Refused n
-output_answer (writes u bs) = output.Wrote (length bs)
+unfoldable pub output_answer : Writing (Unit {0}) → Result ℕ Refusal
+output_answer (refuses why) = Err why
+output_answer (writes u bs) = Ok (length bs)

@@ -1,7 +1,7 @@
 -- The smallest examples that tell each definition of the lines from an easy misreading of it: lines derived by the grammar, then
 -- lists, each under one claim, of lines read, of what the call answers for a line, and of patterns written. The edits in must-fail/
 -- make each misreading, and a claim fails.
-use Rattle.std.specs.Prelude.{ℕ, zero, suc, ◌≡◌, refl, true, false, replicate}
+use Rattle.std.specs.Prelude.{Result, Ok, Err, ℕ, zero, suc, ◌≡◌, refl, true, false, replicate}
 use Prim.Native.String.{String}
 use mathlib.Core.List.{List, [], ◌∷◌, ◌++◌, map, flat_map}
 use Rattle.base.specs.Choice.{pick}
@@ -21,10 +21,9 @@ use Rattle.meaning.specs.Calls.{judged, is_subscription, subscription, Writing, 
 use Rattle.meaning.specs.LineCalls.{number_from, name_number, is_known, known_drawn, numbered_step, drawn_writing, in_order, line_judged, line_then, drawn_answer}
 use Rattle.meaning.specs.LineCalls.{line_answer, line_output, step_writable, text_writing, only_pattern, pattern_writing, subscription_writing, output_answer}
 use Rattle.meaning.specs.Given.{Given, refusal, gives, LineValues, lined_given, output_given}
-use Rattle.meaning.specs.declared.Lined.{Lined}
-use Rattle.meaning.specs.declared.Lined.TheVariants as lined
-use Rattle.meaning.specs.declared.Output.{Output}
-use Rattle.meaning.specs.declared.Output.TheVariants as output
+use Rattle.meaning.specs.declared.LineRefusal.{LineRefusal}
+use Rattle.meaning.specs.declared.Refusal.{Refusal}
+use Rattle.meaning.specs.declared.Refusal.TheVariants.{BytesRemain, CountOutside, EndsEarly, LabelLength, LabelOutside, LabelUnknown, NoRoom, NotALine, NotThere, NotWritable, SecondNear}
 
 -- ---- names, and steps that are drawn
 
@@ -199,7 +198,7 @@ sheet_ab = 2 ∷ (1 ∷ ascii "a" ++ (1 ∷ ascii "b" ++ (0 ∷ [])))
 unfoldable pub room : ℕ → List ℕ
 room n = replicate n 7
 
-unfoldable pub line_answers : List Lined
+unfoldable pub line_answers : List (Result ℕ LineRefusal)
 line_answers =
     -- each has two faults: the sheet is judged before 13; 13, with its place, before 14; 14 before 9; 9 before 10
     line_answer [] [] (ascii "/c]")
@@ -232,10 +231,10 @@ line_outputs =
 
 -- what is given in each case: 13 comes with its place
 unfoldable pub line_givens : List (Given LineValues)
-line_givens = lined_given (lined.Refused 13 2) ∷ lined_given (lined.Wrote 4) ∷ []
+line_givens = lined_given (Err (record { why = NotALine; place = 2 })) ∷ lined_given (Ok 4) ∷ []
 
 pub record AllLined : Type 0 where
-  pub answers : List Lined
+  pub answers : List (Result ℕ LineRefusal)
   pub outputs : List (List ℕ)
   pub givens : List (Given LineValues)
 
@@ -245,17 +244,17 @@ answers_lined = record { answers = line_answers; outputs = line_outputs; givens 
 unfoldable pub expected_lined : AllLined
 expected_lined = record {
   answers =
-      lined.Refused 1 0
-      ∷ lined.Refused 13 2
-      ∷ lined.Refused 14 0
-      ∷ lined.Refused 9 0
-      ∷ lined.Refused 14 0
-      ∷ lined.Refused 14 0
-      ∷ lined.Wrote 10
-      ∷ lined.Wrote 10
-      ∷ lined.Refused 10 0
-      ∷ lined.Wrote 4
-      ∷ lined.Wrote 4
+      Err (record { why = EndsEarly; place = 0 })
+      ∷ Err (record { why = NotALine; place = 2 })
+      ∷ Err (record { why = LabelUnknown; place = 0 })
+      ∷ Err (record { why = SecondNear; place = 0 })
+      ∷ Err (record { why = LabelUnknown; place = 0 })
+      ∷ Err (record { why = LabelUnknown; place = 0 })
+      ∷ Ok 10
+      ∷ Ok 10
+      ∷ Err (record { why = NoRoom; place = 0 })
+      ∷ Ok 4
+      ∷ Ok 4
       ∷ [];
   outputs =
       (0 ∷ 7 ∷ 7 ∷ [])
@@ -309,7 +308,7 @@ texts =
     ∷ []
 
 -- room is judged last: one byte too few, just enough and more for /a, and none for //a.b
-unfoldable pub text_answers : List Output
+unfoldable pub text_answers : List (Result ℕ Refusal)
 text_answers =
     output_answer (with_room (room 1) (subscription_writing sheet_dot 0))
     ∷ output_answer (with_room (room 2) (subscription_writing sheet_dot 0))
@@ -326,11 +325,11 @@ text_outputs =
 
 -- what is given in each case
 unfoldable pub text_givens : List (Given ℕ)
-text_givens = output_given (output.Refused 15) ∷ output_given (output.Wrote 2) ∷ []
+text_givens = output_given (Err NotWritable) ∷ output_given (Ok 2) ∷ []
 
 pub record AllWritten : Type 0 where
   pub texts : List (Writing (Unit {0}))
-  pub answers : List Output
+  pub answers : List (Result ℕ Refusal)
   pub outputs : List (List ℕ)
   pub givens : List (Given ℕ)
 
@@ -345,16 +344,16 @@ expected_written = record {
       ∷ writes tt (ascii "//*/b")
       ∷ writes tt (ascii "[/a][//b]")
       ∷ writes tt (ascii "/a[/b//*][//b[/a][/b]]")
-      ∷ refuses 15
-      ∷ refuses 2
-      ∷ refuses 8
-      ∷ refuses 3
+      ∷ refuses NotWritable
+      ∷ refuses BytesRemain
+      ∷ refuses LabelOutside
+      ∷ refuses LabelLength
       ∷ writes tt (ascii "/a")
-      ∷ refuses 15
-      ∷ refuses 11
-      ∷ refuses 3
+      ∷ refuses NotWritable
+      ∷ refuses NotThere
+      ∷ refuses LabelLength
       ∷ [];
-  answers = output.Refused 10 ∷ output.Wrote 2 ∷ output.Wrote 2 ∷ output.Refused 15 ∷ [];
+  answers = Err NoRoom ∷ Ok 2 ∷ Ok 2 ∷ Err NotWritable ∷ [];
   outputs = room 1 ∷ (47 ∷ 97 ∷ 7 ∷ []) ∷ [];
   givens = record { refused = true; number = 15; values = 0 } ∷ record { refused = false; number = 0; values = 2 } ∷ [];
 }
@@ -370,7 +369,7 @@ written_apart = refl
 unfoldable pub many_a : ℕ → List ℕ
 many_a n = replicate n 97
 
-unfoldable pub long : List Lined
+unfoldable pub long : List (Result ℕ LineRefusal)
 long =
     -- a line of 1,024 bytes, though its label is unknown; a line of one more
     line_answer [] sheet_ab (47 ∷ many_a 1023)
@@ -382,7 +381,7 @@ long =
     ∷ []
 
 pub long_apart :
-    long ≡ (lined.Refused 14 0 ∷ lined.Refused 13 1024 ∷ lined.Refused 13 1023 ∷ lined.Refused 13 1024 ∷ lined.Refused 13 1024 ∷ [])
+    long ≡ (Err (record { why = LabelUnknown; place = 0 }) ∷ Err (record { why = NotALine; place = 1024 }) ∷ Err (record { why = NotALine; place = 1023 }) ∷ Err (record { why = NotALine; place = 1024 }) ∷ Err (record { why = NotALine; place = 1024 }) ∷ [])
 unfolding
     long many_a sheet_ab ascii pick some every barred start moved step_found longer_name longer_last longer opens_here name_or slash_or branch_or after_name next_in next followed all_closed may_end read_from read_any within read_line go_on ◌>>=◌ ◌>>◌ give repeat unless byte bytes end same_label label labels sheet judged with_room is_known known_drawn drawn_writing in_order line_judged line_then drawn_answer line_answer
 long_apart = refl
@@ -392,7 +391,7 @@ unfoldable pub down_a : ℕ → List ℕ
 down_a zero = []
 down_a (suc n) = ascii "//a" ++ down_a n
 
-unfoldable pub many : List Lined
+unfoldable pub many : List (Result ℕ LineRefusal)
 many =
     -- sixteen steps
     line_answer (room 49) sheet_ab (down_a 16)
@@ -403,7 +402,7 @@ many =
     ∷ line_answer [] sheet_ab (47 ∷ many_a 61)
     ∷ []
 
-pub many-apart : many ≡ (lined.Wrote 49 ∷ lined.Refused 14 0 ∷ lined.Refused 5 0 ∷ lined.Refused 14 0 ∷ [])
+pub many-apart : many ≡ (Ok 49 ∷ Err (record { why = LabelUnknown; place = 0 }) ∷ Err (record { why = CountOutside; place = 0 }) ∷ Err (record { why = LabelUnknown; place = 0 }) ∷ [])
 unfolding
     many many_a down_a room sheet_ab ascii pick some every keep flat_map barred start moved step_found longer_name longer_last longer opens_here closes name_or slash_or branch_or after_name next_in next followed all_closed may_end read_from read_any within read_line go_on ◌>>=◌ ◌>>◌ give repeat unless byte bytes end axis_number same_label label labels near_root is_near_root sheet step_bytes steps_bytes judged with_room is_known known_drawn numbered_step drawn_writing in_order line_judged line_then drawn_answer line_answer
 many-apart = refl

@@ -2,6 +2,7 @@
 use Rattle.std.specs.Prelude.{ℕ, zero, suc, ◌+◌, ◌/◌, ◌%◌, ltb, length}
 use mathlib.Core.List.{List, [], ◌∷◌, ◌++◌, flat_map}
 use Rattle.base.specs.Choice.{pick}
+use Rattle.meaning.specs.Numbers.{refusal_number}
 use Rattle.meaning.specs.Reader.{Reader, ◌>>=◌, give, number}
 use Rattle.meaning.specs.Sections.{Sheet, sheet, Entry}
 use Rattle.meaning.specs.Building.{Table, build, steps_together}
@@ -60,4 +61,4 @@ asking = do
 
 -- what is printed for the bytes of standard input
 unfoldable pub printed : List ℕ → List ℕ
-printed s = judged (asking s) refused_text (λ a. table_text a.sheet (build a.limit a.sheet.patterns))
+printed s = judged (asking s) (λ why. refused_text (refusal_number why)) (λ a. table_text a.sheet (build a.limit a.sheet.patterns))

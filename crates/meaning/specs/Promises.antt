@@ -1,12 +1,15 @@
 -- What each call promises of what it gives back and of the bytes that it is lent to write, for any bytes and numbers: one
 -- proposition a call. The contracts cite these, and `Sharp` proves that each determines the result and the lent bytes.
 use Rattle.std.specs.Prelude.{ℕ, ◌≡◌, Bool, List}
-use Rattle.meaning.specs.Given.{Given, asked_given, MergeValues, merged_given, BuildValues, built_given, routed_given, RouteValues, tabled_given}
+use Rattle.meaning.specs.Given.{Given, asked_given, merged_given, built_given, routed_given, tabled_given}
 use Rattle.meaning.specs.Given.{LineValues, lined_given, output_given}
 use Rattle.meaning.specs.LineCalls.{line_answer, line_output, pattern_writing, subscription_writing, output_answer}
 use Rattle.meaning.specs.Routing.{sheds_in, lowest_shed}
 use Rattle.meaning.specs.Calls.{sheet_number, document_number, table_number, matches_answer, covers_answer, with_room, after, merge_writing}
 use Rattle.meaning.specs.Calls.{merge_answer, build_writing, build_answer, plain_answer, table_answer, wanted_answer, label_number, label_part}
+use Rattle.meaning.specs.declared.Merged.{Merged}
+use Rattle.meaning.specs.declared.Built.{Built}
+use Rattle.meaning.specs.declared.Tabled.{Tabled}
 
 -- ---- the three checks
 
@@ -29,11 +32,11 @@ CoversGives s i j given = given ≡ asked_given (covers_answer s i j)
 
 -- ---- what is written: what is given, and the lent output as it is left, where it was found so
 
-pub record MergeGives (s : List ℕ) (i j : ℕ) (found : List ℕ) (given : Given MergeValues) (left : List ℕ) : Type 0 where
+pub record MergeGives (s : List ℕ) (i j : ℕ) (found : List ℕ) (given : Given Merged) (left : List ℕ) : Type 0 where
   pub answer : given ≡ merged_given (merge_answer (with_room found (merge_writing s i j)))
   pub output : left ≡ after found (with_room found (merge_writing s i j))
 
-pub record BuildGives (s : List ℕ) (limit : ℕ) (found : List ℕ) (given : Given BuildValues) (left : List ℕ) : Type 0 where
+pub record BuildGives (s : List ℕ) (limit : ℕ) (found : List ℕ) (given : Given Built) (left : List ℕ) : Type 0 where
   pub answer : given ≡ built_given (build_answer (with_room found (build_writing s limit)))
   pub output : left ≡ after found (with_room found (build_writing s limit))
 
@@ -58,7 +61,7 @@ pub record WriteSubscriptionGives (s : List ℕ) (i : ℕ) (found : List ℕ) (g
 abbrev pub PlainRouteGives : List ℕ → List ℕ → Given ℕ → Type 0
 PlainRouteGives s d given = given ≡ routed_given (plain_answer s d)
 
-abbrev pub TableRouteGives : List ℕ → List ℕ → List ℕ → Given RouteValues → Type 0
+abbrev pub TableRouteGives : List ℕ → List ℕ → List ℕ → Given Tabled → Type 0
 TableRouteGives s t d given = given ≡ tabled_given (table_answer s t d)
 
 -- does anyone want it

@@ -1,11 +1,13 @@
 -- Bytes are judged from the front, each field when its last byte is read: the first fault decides.
 use Rattle.std.specs.Prelude.{ℕ, zero, suc, ◌+◌, ◌*◌, ◌≡◌, Bool, true, false, List, [], ◌∷◌}
-use Rattle.meaning.specs.Numbers.{done, ends_early, bytes_remain}
+use Rattle.meaning.specs.Numbers.{done, refusal_number}
+use Rattle.meaning.specs.declared.Refusal.{Refusal}
+use Rattle.meaning.specs.declared.Refusal.TheVariants.{EndsEarly, BytesRemain}
 
--- what reading gives: a value and the bytes that are left, or the number of the first fault
+-- what reading gives: a value and the bytes that are left, or the first fault
 pub data Reading (A : Type 0) : Type 0 where
   read : A → List ℕ → Reading A
-  refused : ℕ → Reading A
+  refused : Refusal → Reading A
 
 -- a reading that went well
 pub record Went {A : Type 0} (m : Reading A) : Type 0 where
@@ -20,7 +22,7 @@ module _ {A B : Type 0} where
   -- read on from where the first reading ended, with its value, or keep its fault
   unfoldable pub go_on : Reading A → (A → Reader B) → Reading B
   go_on (read a left) next = next a left
-  go_on (refused n) next = refused n
+  go_on (refused why) next = refused why
 
   unfoldable pub ◌>>=◌ : Reader A → (A → Reader B) → Reader B
   ◌>>=◌ first next s = go_on (first s) next
@@ -45,15 +47,15 @@ module _ {A : Type 0} where
   -- the number of a reading: 0 where there was no fault
   unfoldable pub number_of : Reading A → ℕ
   number_of (read a left) = done
-  number_of (refused n) = n
+  number_of (refused why) = refusal_number why
 
--- the fault n, unless the test holds
-unfoldable pub unless : ℕ → Bool → Reader (Unit {0})
-unless n true s = read tt s
-unless n false s = refused n
+-- the fault, unless the test holds
+unfoldable pub unless : Refusal → Bool → Reader (Unit {0})
+unless why true s = read tt s
+unless why false s = refused why
 
 unfoldable pub byte : Reader ℕ
-byte [] = refused ends_early
+byte [] = refused EndsEarly
 byte (b ∷ left) = read b left
 
 -- n bytes, as they are
@@ -71,4 +73,4 @@ number (suc n) = do
 -- no byte remains
 unfoldable pub end : Reader (Unit {0})
 end [] = read tt []
-end (b ∷ left) = refused bytes_remain
+end (b ∷ left) = refused BytesRemain

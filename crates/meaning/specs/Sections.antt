@@ -2,11 +2,11 @@
 use Rattle.std.specs.Prelude.{ℕ, zero, suc, ◌+◌, Bool, true, false, not, ◌&&◌, List, [], ◌∷◌, ◌++◌, eqb, leb, ltb, length}
 use Rattle.base.specs.Choice.{pick}
 use Rattle.base.specs.Lists.{some}
-use Rattle.meaning.specs.Numbers.{label_length, label_twice, count_outside, parent_rule, axis_unknown, label_outside, second_near}
 use Rattle.meaning.specs.Numbers.{longest_label, most_labels, most_patterns, most_steps, most_nodes, most_entries}
 use Rattle.meaning.specs.Reader.{Reader, ◌>>=◌, ◌>>◌, give, unless, byte, bytes, number, repeat, end}
 use Rattle.meaning.specs.Forest.{Forest, forest}
 use Rattle.meaning.specs.declared.Step.{Step}
+use Rattle.meaning.specs.declared.Refusal.TheVariants.{LabelLength, LabelTwice, CountOutside, ParentRule, AxisUnknown, LabelOutside, SecondNear}
 
 -- ---- labels
 
@@ -21,9 +21,9 @@ same_label (x ∷ xs) (y ∷ ys) = eqb x y && same_label xs ys
 unfoldable pub label : List (List ℕ) → Reader (List ℕ)
 label before = do
   long ← byte
-  unless label_length (leb 1 long && leb long longest_label)
+  unless LabelLength (leb 1 long && leb long longest_label)
   text ← bytes long
-  unless label_twice (not (some (same_label text) before))
+  unless LabelTwice (not (some (same_label text) before))
   give text
 
 -- n labels after those before them
@@ -61,12 +61,12 @@ is_near_root s = near_root s.parent s.axis
 unfoldable pub a_step : ℕ → List Step → Reader Step
 a_step known before = do
   parent ← byte
-  unless parent_rule (may_hang before parent)
+  unless ParentRule (may_hang before parent)
   axis ← byte
-  unless axis_unknown (leb axis 1)
-  unless second_near (not (near_root parent axis && some is_near_root before))
+  unless AxisUnknown (leb axis 1)
+  unless SecondNear (not (near_root parent axis && some is_near_root before))
   label ← byte
-  unless label_outside (leb label known)
+  unless LabelOutside (leb label known)
   give (record { parent = parent; axis = axis; label = label })
 
 -- n steps after those before them
@@ -81,7 +81,7 @@ steps known (suc n) before = do
 unfoldable pub pattern : ℕ → Reader Forest
 pattern known = do
   n ← byte
-  unless count_outside (leb n most_steps)
+  unless CountOutside (leb n most_steps)
   ss ← steps known n []
   give (forest ss)
 
@@ -97,7 +97,7 @@ sheet = do
   n ← byte
   ls ← labels n []
   m ← byte
-  unless count_outside (leb m most_patterns)
+  unless CountOutside (leb m most_patterns)
   ps ← repeat m (pattern (length ls))
   end
   give (record { labels = ls; patterns = ps })
@@ -121,9 +121,9 @@ node_parent k p = pick (eqb k 1) (eqb p 0) (leb 1 p && ltb p k)
 unfoldable pub a_node : ℕ → ℕ → Reader Node
 a_node known k = do
   parent ← number 2
-  unless parent_rule (node_parent k parent)
+  unless ParentRule (node_parent k parent)
   label ← byte
-  unless label_outside (leb 1 label && leb label known)
+  unless LabelOutside (leb 1 label && leb label known)
   give (record { parent = parent; label = label })
 
 -- n nodes, from number k on
@@ -138,10 +138,10 @@ nodes known (suc n) k = do
 unfoldable pub document : Sheet → Reader Document
 document sh = do
   n ← byte
-  unless count_outside (leb (length sh.labels + n) most_labels)
+  unless CountOutside (leb (length sh.labels + n) most_labels)
   ls ← labels n sh.labels
   m ← number 2
-  unless count_outside (leb 1 m && leb m most_nodes)
+  unless CountOutside (leb 1 m && leb m most_nodes)
   ds ← nodes (length sh.labels + n) m 1
   end
   give (record { labels = ls; nodes = ds })
@@ -163,7 +163,7 @@ entry known = do
 unfoldable pub table : Sheet → Reader (List Entry)
 table sh = do
   n ← byte
-  unless count_outside (leb n most_entries)
+  unless CountOutside (leb n most_entries)
   es ← repeat n (entry (length sh.labels))
   end
   give es

@@ -1,40 +1,48 @@
-// What the papers define, and nothing else: there is no function here. The definitions are in specs/, in the order of
-// the paper. Declared here are the refusals and limits as code names them, the step as it is written, and the answers of
-// the hub's calls.
+// What the papers define. The definitions are in specs/, in the order of the paper. Declared here are the refusals with
+// their numbers and the limits, as code names them, the step as it is written, and the values of the hub's calls.
 #![tactic(auto)]
 
-// The numbers given back; specs/Numbers.antt says when each is given, and code that gives another is not proved.
-pub const DONE: u8 = 0;
+ghost use Rattle.std.specs.Prelude.{◌≡◌};
+ghost use Rattle.meaning.specs.Numbers.{refusal_number, number_given};
 
-pub const ENDS_EARLY: u8 = 1;
+// Why a call refuses, with the number that is given back; specs/Numbers.antt says when each is given, and code that gives
+// another is not proved. Done is 0.
+#[derive(Clone, Copy, Debug, PartialEq, Eq)]
+pub enum Refusal {
+    EndsEarly = 1,
+    BytesRemain,
+    LabelLength,
+    LabelTwice,
+    CountOutside,
+    ParentRule,
+    AxisUnknown,
+    LabelOutside,
+    SecondNear,
+    NoRoom,
+    NotThere,
+    NotFair,
+    NotALine,
+    LabelUnknown,
+    NotWritable,
+}
 
-pub const BYTES_REMAIN: u8 = 2;
+impl Refusal {
+    pub fn number(self) -> u8
+        ensures { result ≡ refusal_number self }
+    {
+        self as u8
+    }
+}
 
-pub const LABEL_LENGTH: u8 = 3;
-
-pub const LABEL_TWICE: u8 = 4;
-
-pub const COUNT_OUTSIDE: u8 = 5;
-
-pub const PARENT_RULE: u8 = 6;
-
-pub const AXIS_UNKNOWN: u8 = 7;
-
-pub const LABEL_OUTSIDE: u8 = 8;
-
-pub const SECOND_NEAR: u8 = 9;
-
-pub const NO_ROOM: u8 = 10;
-
-pub const NOT_THERE: u8 = 11;
-
-pub const NOT_FAIR: u8 = 12;
-
-pub const NOT_A_LINE: u8 = 13;
-
-pub const LABEL_UNKNOWN: u8 = 14;
-
-pub const NOT_WRITABLE: u8 = 15;
+// The number of a check: 0 where it passed.
+pub fn number_given(checked: Result<(), Refusal>) -> u8
+    ensures { result ≡ number_given checked }
+{
+    match checked {
+        Ok(()) => 0,
+        Err(why) => why.number(),
+    }
+}
 
 // The limits.
 pub const LONGEST_LABEL: usize = 60;
@@ -59,52 +67,38 @@ pub struct Step {
     pub label: u8,
 }
 
-// Does a subscription match, does it cover, does anyone want the document?
+// A merge that was written: how many bytes, and whether a candidate was left out.
 #[derive(Clone, Copy)]
-pub enum Asked {
-    Refused(u8),
-    Said(bool),
+pub struct Merged {
+    pub length: usize,
+    pub clipped: bool,
 }
 
-// A merge: a refusal, or how many bytes were written, and whether a candidate was left out.
+// A table for a limit that was written: how many bytes, after how many rounds.
 #[derive(Clone, Copy)]
-pub enum Merged {
-    Refused(u8),
-    Wrote { length: usize, clipped: bool },
+pub struct Built {
+    pub length: usize,
+    pub rounds: usize,
 }
 
-// A table for a limit: a refusal, or how many bytes were written, after how many rounds.
+// The route by a table: bit i of the set is subscription i; and how many patterns were tried.
 #[derive(Clone, Copy)]
-pub enum Built {
-    Refused(u8),
-    Wrote { length: usize, rounds: usize },
+pub struct Tabled {
+    pub set: u64,
+    pub tried: usize,
 }
 
-// A line read: a refusal, with the place where the line is not in the notation and otherwise 0, or how many bytes of a
-// pattern were written.
-#[derive(Clone, Copy)]
-pub enum Lined {
-    Refused { number: u8, place: usize },
-    Wrote(usize),
+// Why a line is refused, with the place where it is not in the notation, and otherwise 0.
+#[derive(Clone, Copy, Debug, PartialEq, Eq)]
+pub struct LineRefusal {
+    pub why: Refusal,
+    pub place: usize,
 }
 
-// What is written into a lent output: a refusal, or how many bytes.
-#[derive(Clone, Copy)]
-pub enum Output {
-    Refused(u8),
-    Wrote(usize),
-}
+impl From<Refusal> for LineRefusal {
+    ghost from_gives = { λ why e. e ≡ record { why = why; place = 0 } };
 
-// The plain route: bit i of the set is subscription i.
-#[derive(Clone, Copy)]
-pub enum Routed {
-    Refused(u8),
-    Delivered(u64),
-}
-
-// The route by a table: the set, and how many patterns were tried.
-#[derive(Clone, Copy)]
-pub enum Tabled {
-    Refused(u8),
-    Delivered { set: u64, tried: usize },
+    fn from(why: Refusal) -> LineRefusal {
+        LineRefusal { why, place: 0 }
+    }
 }

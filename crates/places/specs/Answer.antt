@@ -13,7 +13,7 @@ use Rattle.base.specs.declared.Cur.{Cur}
 use Rattle.base.specs.declared.Cur.TheVariants.{At, No}
 use Rattle.meaning.specs.Reader.{Reading, read, refused, Reader, go_on, ◌>>=◌, ◌>>◌, unless, byte, bytes, end, give, repeat, number_of}
 use Rattle.places.specs.Bytes.{number_at}
-use Rattle.meaning.specs.Numbers.{bytes_remain, ends_early}
+use Rattle.meaning.specs.declared.Refusal.TheVariants.{BytesRemain, EndsEarly}
 
 -- ---- choices
 
@@ -105,14 +105,14 @@ module _ {A B : Type 0} where
   then_answer s a b (No n) next f h = refl
 
 -- n bytes of a list are its first n, where there are so many
-pub bytes_at : (n : ℕ) (l : List ℕ) → bytes n l ≡ pick (leb n (length l)) (read (take n l) (drop n l)) (refused ends_early)
+pub bytes_at : (n : ℕ) (l : List ℕ) → bytes n l ≡ pick (leb n (length l)) (read (take n l) (drop n l)) (refused EndsEarly)
 unfolding bytes repeat give byte ◌>>=◌ go_on pick
 bytes_at zero l = rw (leb-zero (length l))
 bytes_at (suc n) [] = rw (leb-suc-zero n)
 bytes_at (suc n) (x ∷ l) = rw (leb-suc-suc n (length l), bytes_at n l) (go (leb n (length l)))
   where
-    go : (b : Bool) → go_on (pick b (read (take n l) (drop n l)) (refused ends_early)) (λ later. give (x ∷ later))
-        ≡ pick b (read (x ∷ take n l) (drop n l)) (refused ends_early)
+    go : (b : Bool) → go_on (pick b (read (take n l) (drop n l)) (refused EndsEarly)) (λ later. give (x ∷ later))
+        ≡ pick b (read (x ∷ take n l) (drop n l)) (refused EndsEarly)
     go true = refl
     go false = refl
 
@@ -132,11 +132,11 @@ module _ {A B : Type 0} where
 module _ {B : Type 0} (s : List ℕ) where
   -- a byte, where there is one
   pub then_byte : (at : ℕ) (next : ℕ → Reader B)
-      → ◌>>=◌ byte next (drop at s) ≡ pick (ltb at (length s)) (next (get_or s at 0) (drop (at + 1) s)) (refused ends_early)
+      → ◌>>=◌ byte next (drop at s) ≡ pick (ltb at (length s)) (next (get_or s at 0) (drop (at + 1) s)) (refused EndsEarly)
   unfolding ◌>>=◌ byte go_on pick
   then_byte at next = go (ltb at (length s)) refl
     where
-      go : (b : Bool) → ltb at (length s) ≡ b → go_on (byte (drop at s)) next ≡ pick b (next (get_or s at 0) (drop (at + 1) s)) (refused ends_early)
+      go : (b : Bool) → ltb at (length s) ≡ b → go_on (byte (drop at s)) next ≡ pick b (next (get_or s at 0) (drop (at + 1) s)) (refused EndsEarly)
       go true e = rw (drop-cons s at 0 (ltb-true at (length s) e), add-one at)
       go false e = rw (drop_of_length-le s (ltb-false at (length s) e))
 
@@ -148,20 +148,20 @@ module _ {B : Type 0} (s : List ℕ) where
 
   -- n bytes, where there are so many
   pub then_bytes : (n at : ℕ) (next : List ℕ → Reader B)
-      → ◌>>=◌ (bytes n) next (drop at s) ≡ pick (leb n (length s - at)) (next (take n (drop at s)) (drop (at + n) s)) (refused ends_early)
+      → ◌>>=◌ (bytes n) next (drop at s) ≡ pick (leb n (length s - at)) (next (take n (drop at s)) (drop (at + n) s)) (refused EndsEarly)
   unfolding ◌>>=◌ go_on pick
   then_bytes n at next = rw (bytes_at n (drop at s), length-drop at s, drop-drop n at s) (go (leb n (length s - at)))
     where
-      go : (b : Bool) → go_on (pick b (read (take n (drop at s)) (drop (at + n) s)) (refused ends_early)) next
-          ≡ pick b (next (take n (drop at s)) (drop (at + n) s)) (refused ends_early)
+      go : (b : Bool) → go_on (pick b (read (take n (drop at s)) (drop (at + n) s)) (refused EndsEarly)) next
+          ≡ pick b (next (take n (drop at s)) (drop (at + n) s)) (refused EndsEarly)
       go true = refl
       go false = refl
 
   -- no byte remains
-  pub then_end : (at : ℕ) (next : Reader B) → ◌>>◌ end next (drop at s) ≡ pick (leb (length s) at) (next (drop at s)) (refused bytes_remain)
+  pub then_end : (at : ℕ) (next : Reader B) → ◌>>◌ end next (drop at s) ≡ pick (leb (length s) at) (next (drop at s)) (refused BytesRemain)
   unfolding ◌>>◌ end go_on pick
   then_end at next = go (leb (length s) at) refl
     where
-      go : (b : Bool) → leb (length s) at ≡ b → go_on (end (drop at s)) (λ a. next) ≡ pick b (next (drop at s)) (refused bytes_remain)
+      go : (b : Bool) → leb (length s) at ≡ b → go_on (end (drop at s)) (λ a. next) ≡ pick b (next (drop at s)) (refused BytesRemain)
       go true e = rw (drop_of_length-le s (leb-true (length s) at e))
       go false e = rw (drop-cons s at 0 (leb-false (length s) at e))

@@ -3,7 +3,7 @@ use Rattle.std.specs.Prelude.{ℕ, ◌+◌, ◌*◌, List, leb, length, get_or}
 use Rattle.base.specs.Choice.{pick}
 use Rattle.base.specs.declared.Cur.{Cur}
 use Rattle.base.specs.declared.Cur.TheVariants.{At, No}
-use Rattle.meaning.specs.Numbers.{bytes_remain}
+use Rattle.meaning.specs.declared.Refusal.TheVariants.{BytesRemain}
 
 -- the number of two bytes at x, the low one first
 unfoldable pub pair_at : List ℕ → ℕ → ℕ
@@ -11,7 +11,7 @@ pair_at s x = get_or s x 0 + 256 * get_or s (x + 1) 0
 
 -- no byte remains
 unfoldable pub end_place : List ℕ → ℕ → Cur
-end_place s x = pick (leb (length s) x) (At x) (No bytes_remain)
+end_place s x = pick (leb (length s) x) (At x) (No BytesRemain)
 
 -- the number for a place or a fault
 unfoldable pub number_at : Cur → ℕ

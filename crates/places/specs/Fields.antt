@@ -13,7 +13,7 @@ use Rattle.places.specs.Answer.{answer, answer-pick, then_answer, then_give, the
 use Rattle.places.specs.Answer.{passed, passed_on, pick_both, pick-either, pick_not}
 use Rattle.places.specs.NumberRead.{number_in, then_number, then_pair}
 use Rattle.places.specs.Section.{Section, judged_as}
-use Rattle.meaning.specs.Numbers.{ends_early, bytes_remain}
+use Rattle.meaning.specs.declared.Refusal.TheVariants.{EndsEarly, BytesRemain}
 
 -- ---- one field, and what follows it
 
@@ -28,7 +28,7 @@ module _ {A : Type 0} (s : List ℕ) where
 
 -- within the bytes
 module _ (s : List ℕ) (x : ℕ) where
-  pub end-judged : pick (leb (length s) x) (At x) (No bytes_remain) ≡ end_place s x
+  pub end-judged : pick (leb (length s) x) (At x) (No BytesRemain) ≡ end_place s x
   unfolding end_place
   end-judged = refl
 
@@ -71,26 +71,26 @@ module _ {A : Type 0} {s : List ℕ} {x : ℕ} where
 
   -- the end
   abbrev pub end_then : (a : A) → Section s (◌>>◌ end (give a)) x
-  end_then a = judged_as (end_place s x) (guarded (leb (length s) x) bytes_remain (given a) (then_end s x (give a)) (λ e h. h)) (end-judged s x)
+  end_then a = judged_as (end_place s x) (guarded (leb (length s) x) BytesRemain (given a) (then_end s x (give a)) (λ e h. h)) (end-judged s x)
 
   -- a byte
   abbrev pub byte_then : {next : ℕ → Reader A} → ((v : ℕ) → Section s (next v) (x + 1)) → Section s (◌>>=◌ byte next) x
-  byte_then {next = next} f = guarded (ltb x (length s)) ends_early (f (get_or s x 0)) (then_byte s x next) (λ e h. inside_one s x e)
+  byte_then {next = next} f = guarded (ltb x (length s)) EndsEarly (f (get_or s x 0)) (then_byte s x next) (λ e h. inside_one s x e)
 
   -- n bytes
   abbrev pub bytes_then : (n : ℕ) {next : List ℕ → Reader A} → ((t : List ℕ) → Section s (next t) (x + n)) → Section s (◌>>=◌ (bytes n) next) x
-  bytes_then n {next = next} f = guarded (leb n (length s - x)) ends_early (f (take n (drop x s))) (then_bytes s n x next) (λ e h. inside_more s x n e h)
+  bytes_then n {next = next} f = guarded (leb n (length s - x)) EndsEarly (f (take n (drop x s))) (then_bytes s n x next) (λ e h. inside_more s x n e h)
 
   -- a number of n bytes
   abbrev pub number_then : (n : ℕ) {next : ℕ → Reader A} → ((v : ℕ) → Section s (next v) (x + n)) → Section s (◌>>=◌ (number n) next) x
-  number_then n {next = next} f = guarded (leb n (length s - x)) ends_early (f (number_in s x n)) (then_number s n x next) (λ e h. inside_more s x n e h)
+  number_then n {next = next} f = guarded (leb n (length s - x)) EndsEarly (f (number_in s x n)) (then_number s n x next) (λ e h. inside_more s x n e h)
 
   -- of two bytes, each of which is looked for
   abbrev pub pair_then : {next : ℕ → Reader A} → ((v : ℕ) → Section s (next v) (x + 2)) → Section s (◌>>=◌ (number 2) next) x
   pair_then {next = next} f =
-      guarded (ltb x (length s)) ends_early
-      (guarded {r = λ l. pick (ltb (x + 1) (length s)) (next (pair_at s x) (drop (x + 2) s)) (refused ends_early)} {x = x}
-      (ltb (x + 1) (length s)) ends_early (f (pair_at s x)) refl (λ e h. inside-two s x e))
+      guarded (ltb x (length s)) EndsEarly
+      (guarded {r = λ l. pick (ltb (x + 1) (length s)) (next (pair_at s x) (drop (x + 2) s)) (refused EndsEarly)} {x = x}
+      (ltb (x + 1) (length s)) EndsEarly (f (pair_at s x)) refl (λ e h. inside-two s x e))
       (then_pair s x next) (λ e h. h)
 
   -- a test

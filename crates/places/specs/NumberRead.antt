@@ -13,7 +13,7 @@ use Rattle.base.specs.Choice.{pick}
 use Rattle.meaning.specs.Reader.{Reading, read, refused, Reader, go_on, ◌>>=◌, give, number}
 use Rattle.places.specs.Bytes.{pair_at}
 use Rattle.places.specs.Answer.{then_byte, go_on-pick, two}
-use Rattle.meaning.specs.Numbers.{ends_early}
+use Rattle.meaning.specs.declared.Refusal.TheVariants.{EndsEarly}
 
 -- the number of n bytes at a place, the low byte first
 unfoldable pub number_in : List ℕ → ℕ → ℕ → ℕ
@@ -38,7 +38,7 @@ module _ (s : List ℕ) where
       second h = omega arith
 
   -- a number of n bytes, where there are so many
-  pub number_at : (n at : ℕ) → number n (drop at s) ≡ pick (leb n (length s - at)) (read (number_in s at n) (drop (at + n) s)) (refused ends_early)
+  pub number_at : (n at : ℕ) → number n (drop at s) ≡ pick (leb n (length s - at)) (read (number_in s at n) (drop (at + n) s)) (refused EndsEarly)
   unfolding number number_in give ◌>>=◌ pick go_on
   number_at zero at = rw (leb-zero (length s - at), add-zero at)
   number_at (suc n) at =
@@ -48,9 +48,9 @@ module _ (s : List ℕ) where
       further = omega arith
 
       go : (a b : Bool) → pick a
-          (go_on (pick b (read (number_in s (at + 1) n) (drop (at + 1 + n) s)) (refused ends_early)) (λ high. give (get_or s at 0 + 256 * high)))
-          (refused ends_early)
-          ≡ pick (a && b) (read (get_or s at 0 + 256 * number_in s (at + 1) n) (drop (at + 1 + n) s)) (refused ends_early)
+          (go_on (pick b (read (number_in s (at + 1) n) (drop (at + 1 + n) s)) (refused EndsEarly)) (λ high. give (get_or s at 0 + 256 * high)))
+          (refused EndsEarly)
+          ≡ pick (a && b) (read (get_or s at 0 + 256 * number_in s (at + 1) n) (drop (at + 1 + n) s)) (refused EndsEarly)
       go true true = refl
       go true false = refl
       go false b = refl
@@ -58,19 +58,19 @@ module _ (s : List ℕ) where
 module _ {B : Type 0} (s : List ℕ) where
   -- read on after a number
   pub then_number : (n at : ℕ) (next : ℕ → Reader B)
-      → ◌>>=◌ (number n) next (drop at s) ≡ pick (leb n (length s - at)) (next (number_in s at n) (drop (at + n) s)) (refused ends_early)
+      → ◌>>=◌ (number n) next (drop at s) ≡ pick (leb n (length s - at)) (next (number_in s at n) (drop (at + n) s)) (refused EndsEarly)
   unfolding ◌>>=◌ go_on pick
   then_number n at next = ap (λ (r : Reading ℕ). go_on r next) (number_at s n at) ∙ go (leb n (length s - at))
     where
-      go : (b : Bool) → go_on (pick b (read (number_in s at n) (drop (at + n) s)) (refused ends_early)) next
-          ≡ pick b (next (number_in s at n) (drop (at + n) s)) (refused ends_early)
+      go : (b : Bool) → go_on (pick b (read (number_in s at n) (drop (at + n) s)) (refused EndsEarly)) next
+          ≡ pick b (next (number_in s at n) (drop (at + n) s)) (refused EndsEarly)
       go true = refl
       go false = refl
 
 -- of two bytes, each of which is looked for
 pub then_pair : {B : Type 0} (s : List ℕ) (x : ℕ) (next : ℕ → Reader B)
     → ◌>>=◌ (number 2) next (drop x s)
-    ≡ pick (ltb x (length s)) (pick (ltb (x + 1) (length s)) (next (pair_at s x) (drop (x + 2) s)) (refused ends_early)) (refused ends_early)
+    ≡ pick (ltb x (length s)) (pick (ltb (x + 1) (length s)) (next (pair_at s x) (drop (x + 2) s)) (refused EndsEarly)) (refused EndsEarly)
 unfolding number pair_at ◌>>=◌ give go_on
 then_pair s x next = simp (then_byte, go_on-pick, add-zero, two)
 

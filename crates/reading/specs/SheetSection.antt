@@ -7,7 +7,7 @@ use Rattle.base.specs.Standing.{standing}
 use Rattle.base.specs.Loops.{and_then, run}
 use Rattle.base.specs.declared.Cur.{Cur}
 use Rattle.base.specs.declared.Cur.TheVariants.{At, No}
-use Rattle.meaning.specs.Numbers.{ends_early, count_outside, most_steps, most_patterns}
+use Rattle.meaning.specs.Numbers.{most_steps, most_patterns}
 use Rattle.meaning.specs.Reader.{read, ◌>>=◌, ◌>>◌, give, unless, byte, repeat, end}
 use Rattle.meaning.specs.Forest.{Forest, forest}
 use Rattle.meaning.specs.Sections.{pattern, Sheet, sheet}
@@ -21,6 +21,7 @@ use Rattle.places.specs.Answer.{and_then-pick, passed, passed_on}
 use Rattle.places.specs.Section.{Section, judged_as, read_as, stands_as, section_is, section-number}
 use Rattle.places.specs.Fields.{byte_then, unless_then, then_given, section_then, end_then}
 use Rattle.places.specs.InTurn.{repeated, each_place}
+use Rattle.meaning.specs.declared.Refusal.TheVariants.{EndsEarly, CountOutside}
 
 -- ---- patterns
 
@@ -31,7 +32,7 @@ module _ (s : List ℕ) (known : ℕ) where
   pattern_section x =
       stands_as (forest_at s x) (after_pattern s x) (
       byte_then λ n.
-      unless_then count_outside (leb n most_steps) (
+      unless_then CountOutside (leb n most_steps) (
       then_given forest (steps_section s known (x + 1) n)))
       refl refl
 
@@ -42,8 +43,8 @@ module _ (s : List ℕ) (known : ℕ) where
   unfoldable pub patterns_place : ℕ → Cur
   patterns_place x =
       pick (ltb x (length s))
-      (pick (leb (get_or s x 0) most_patterns) (run (each_place pattern_section) (get_or s x 0) 0 (x + 1)) (No count_outside))
-      (No ends_early)
+      (pick (leb (get_or s x 0) most_patterns) (run (each_place pattern_section) (get_or s x 0) 0 (x + 1)) (No CountOutside))
+      (No EndsEarly)
 
 -- ---- a sheet
 
@@ -54,14 +55,14 @@ a_sheet ls ps = record { labels = ls; patterns = ps }
 -- the patterns of a sheet of n labels, from their count at x on, and the end
 unfoldable pub patterns_to_end : (s : List ℕ) (n x : ℕ) → Section s (
     ◌>>=◌ byte λ m.
-    ◌>>◌ (unless count_outside (leb m most_patterns)) (
+    ◌>>◌ (unless CountOutside (leb m most_patterns)) (
     ◌>>=◌ (repeat m (pattern (length (texts_at s 1 n)))) λ ps.
     ◌>>◌ end (give (a_sheet (texts_at s 1 n) ps)))) x
 unfolding patterns_place and_then
 patterns_to_end s n x =
     judged_as (and_then (patterns_place s n x) (end_place s)) (
     byte_then λ m.
-    unless_then count_outside (leb m most_patterns) (
+    unless_then CountOutside (leb m most_patterns) (
     section_then _ (read_as (ap (λ (k : ℕ). repeat m (pattern k)) (sym (length-texts s 1 n))) (repeated (pattern_section s n) m (x + 1))) λ y.
     end_then _))
     (simp and_then-pick)
@@ -102,5 +103,5 @@ patterns-stand s sh left h =
     section : (x y : ℕ) → x ≡ pattern_count_at s → patterns_place s (get_or s 0 0) x ≡ At y → PatternsStand s
     section x y there h =
         let f = passed (ltb x (length s)) _ 1 y h in
-        let g = passed (leb (get_or s x 0) most_patterns) _ count_outside y f.1 in
+        let g = passed (leb (get_or s x 0) most_patterns) _ CountOutside y f.1 in
         record { few = rw there at g.0; final = y; all_read = rw there at g.1 }

@@ -26,7 +26,7 @@ use Rattle.reading.specs.SheetPlaces.{step_at_place, after_step, steps_at}
 use Rattle.places.specs.Answer.{answer, answer-pick, passed, passed_not, then_byte, then_unless, pick_not, two}
 use Rattle.places.specs.Section.{Section, stands_as}
 use Rattle.places.specs.InTurn.{in_turn}
-use Rattle.meaning.specs.Numbers.{label_outside, second_near, axis_unknown, ends_early, parent_rule}
+use Rattle.meaning.specs.declared.Refusal.TheVariants.{LabelOutside, SecondNear, AxisUnknown, EndsEarly, ParentRule}
 
 -- ---- how steps are judged
 
@@ -39,7 +39,7 @@ climbs s p q (suc n) c =
 
 -- the last byte of a step, its label
 unfoldable pub step_label : List ℕ → ℕ → ℕ → Cur
-step_label s known x = pick (ltb x (length s)) (pick (leb (get_or s x 0) known) (At (x + 1)) (No label_outside)) (No ends_early)
+step_label s known x = pick (ltb x (length s)) (pick (leb (get_or s x 0) known) (At (x + 1)) (No LabelOutside)) (No EndsEarly)
 
 -- a second near step with parent 0, after the k steps from the place p on
 unfoldable pub is_second_near : List ℕ → ℕ → ℕ → ℕ → ℕ → Bool
@@ -52,11 +52,11 @@ step_place s known p k x =
     (pick (climbs s p (get_or s x 0) (k + 1) k)
     (pick (ltb (x + 1) (length s))
     (pick (leb (get_or s (x + 1) 0) 1)
-    (pick (is_second_near s p k (get_or s x 0) (get_or s (x + 1) 0)) (No second_near) (step_label s known (x + 2)))
-    (No axis_unknown))
-    (No ends_early))
-    (No parent_rule))
-    (No ends_early)
+    (pick (is_second_near s p k (get_or s x 0) (get_or s (x + 1) 0)) (No SecondNear) (step_label s known (x + 2)))
+    (No AxisUnknown))
+    (No EndsEarly))
+    (No ParentRule))
+    (No EndsEarly)
 
 -- ---- that is how they are read
 

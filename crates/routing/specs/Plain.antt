@@ -7,7 +7,6 @@ use Rattle.std.proofs.Math.ListN.{length, length-map}
 use Rattle.std.proofs.Math.Seq.{length-take-le}
 use Rattle.base.specs.Choice.{pick, pick_true, pick_false}
 use Rattle.meaning.specs.Forest.{Forest, none}
-use Rattle.meaning.specs.Numbers.{not_there}
 use Rattle.meaning.specs.Sections.{Node, Sheet}
 use Rattle.meaning.specs.Satisfying.{satisfies}
 use Rattle.meaning.specs.Routing.{delivery_set, plain_route}
@@ -20,6 +19,7 @@ use Rattle.reading.specs.SheetPlaces.{sheet_at}
 use Rattle.subscriptions.specs.declared.Subscriptions.{Subscriptions}
 use Rattle.subscriptions.specs.Taken.{pattern_at}
 use Rattle.subscriptions.specs.Subscribed.{SubscriptionsStand}
+use Rattle.meaning.specs.declared.Refusal.TheVariants.{NotThere}
 
 module _ (ns : List Node) (ps : List Forest) where
   -- the delivery set of the first i subscriptions
@@ -72,7 +72,7 @@ module _ {ns : List Node} {s : List ℕ} {v : Subscriptions} where
 
 -- one subscription of a sheet asked by its number
 unfoldable pub numbered_answer : List Node → Sheet → ℕ → Asked
-numbered_answer ns sh i = pick (is_subscription sh i) (asked.Said (satisfies ns (subscription sh i))) (asked.Refused not_there)
+numbered_answer ns sh i = pick (is_subscription sh i) (asked.Said (satisfies ns (subscription sh i))) (asked.Refused NotThere)
 
 module _ (ns : List Node) {s : List ℕ} {v : Subscriptions} (stand : SubscriptionsStand s v) (i : ℕ) where
   -- there is such a subscription, and the pattern at its place is asked
@@ -84,6 +84,6 @@ module _ (ns : List Node) {s : List ℕ} {v : Subscriptions} (stand : Subscripti
       (ap asked.Said (e ∙ ap (satisfies ns) (stand.taken i h).0))
 
   -- there is none
-  pub answer-not_there : v.count ≤ i → asked.Refused not_there ≡ numbered_answer ns (sheet_at s) i
+  pub answer-not_there : v.count ≤ i → asked.Refused NotThere ≡ numbered_answer ns (sheet_at s) i
   unfolding numbered_answer is_subscription
   answer-not_there h = pick_false _ _ _ (ltb i (length (sheet_at s).patterns)) (le-ltb i _ (omega (arith, stand.counted))) refl

@@ -8,7 +8,7 @@ use Rattle.std.proofs.Math.Dec.{leb}
 use Rattle.std.proofs.lemmas.List.{length-replicate}
 use Rattle.base.specs.Choice.{pick_true, pick_false}
 use Rattle.base.specs.Lists.{every}
-use Rattle.meaning.specs.Numbers.{no_room, not_writable, longest_line}
+use Rattle.meaning.specs.Numbers.{longest_line}
 use Rattle.meaning.specs.Forest.{Forest, steps_of}
 use Rattle.meaning.specs.PatternText.{pattern_text}
 use Rattle.meaning.specs.Calls.{writes}
@@ -24,6 +24,7 @@ use Rattle.texts.specs.PutText.{written, put, put_whole, same-room}
 use Rattle.labels.specs.LabelPlaces.{labels_in}
 use Rattle.writing.specs.OutputAfter.{written_over, not_written}
 use Rattle.writing.specs.Gives.{Gives, gives-refusal, gives_same, gives-written, gives-no_room}
+use Rattle.meaning.specs.declared.Refusal.TheVariants.{NoRoom, NotWritable}
 
 -- ---- the text, put into a buffer
 
@@ -55,9 +56,9 @@ line-put s stands p sound after n h =
 
 module _ (ls : List (List ℕ)) (f : Forest) (out : List ℕ) (r : Bool) (said : r ≡ every (step_writable ls) (steps_of f)) where
   -- a label can't stand in a line
-  pub line_refused : not r ≡ true → Gives output_answer out (text_writing ls f) (output.Refused not_writable) out
+  pub line_refused : not r ≡ true → Gives output_answer out (text_writing ls f) (output.Refused NotWritable) out
   unfolding output_answer text_writing
-  line_refused e = gives-refusal output_answer out not_writable _ (pick_false _ _ _ _ (sym said ∙ not-true r e) refl)
+  line_refused e = gives-refusal output_answer out NotWritable _ (pick_false _ _ _ _ (sym said ∙ not-true r e) refl)
 
   -- otherwise its text is to be written
   line_is : not r ≡ false → writes tt (pattern_text ls f) ≡ text_writing ls f
@@ -66,7 +67,7 @@ module _ (ls : List (List ℕ)) (f : Forest) (out : List ℕ) (r : Bool) (said :
 
   -- there is no room for it
   pub line-no_room : not r ≡ false → (n : ℕ) → n ≡ length (pattern_text ls f) → length out < n
-      → Gives output_answer out (text_writing ls f) (output.Refused no_room) out
+      → Gives output_answer out (text_writing ls f) (output.Refused NoRoom) out
   unfolding output_answer
   line-no_room e n long short =
       let left = not_written out (pattern_text ls f) n long short in

@@ -4,7 +4,6 @@ use Rattle.std.proofs.Math.Path.{refl, sym, ap}
 use Rattle.std.proofs.Common.{◌∙◌, lt-ltb, le-ltb}
 use Rattle.base.specs.Choice.{pick, pick_true, pick_false}
 use Rattle.base.specs.declared.Cur.TheVariants.{At, No}
-use Rattle.meaning.specs.Numbers.{not_there}
 use Rattle.meaning.specs.Forest.{Forest}
 use Rattle.meaning.specs.Sections.{Sheet}
 use Rattle.meaning.specs.Calls.{judged, is_subscription, subscription, Writing, refuses}
@@ -19,6 +18,7 @@ use Rattle.subscriptions.specs.Taken.{pattern_at}
 use Rattle.subscriptions.specs.Subscribed.{SubscriptionsStand}
 use Rattle.subscriptions.specs.declared.Subscriptions.{Subscriptions}
 use Rattle.spelling.specs.OnlyPattern.{only_section, only_place, only_taken}
+use Rattle.meaning.specs.declared.Refusal.TheVariants.{NotThere}
 
 -- of a pattern's bytes
 unfoldable pub pattern_says : Sheet → List ℕ → Writing (Unit {0})
@@ -26,7 +26,7 @@ pattern_says sh p = judged (only_pattern (length sh.labels) p) refuses (λ f. te
 
 -- of a subscription
 unfoldable pub subscription_says : Sheet → ℕ → Writing (Unit {0})
-subscription_says sh i = pick (is_subscription sh i) (text_writing sh.labels (subscription sh i)) (refuses not_there)
+subscription_says sh i = pick (is_subscription sh i) (text_writing sh.labels (subscription sh i)) (refuses NotThere)
 
 -- ---- a pattern's bytes, from the place where judging them ended
 
@@ -57,7 +57,7 @@ module _ {s : List ℕ} {v : Subscriptions} (stand : SubscriptionsStand s v) (i 
   number_there h f e = pick_true _ _ _ _ (rw (← stand.counted) (lt-ltb i v.count h)) (ap (text_writing (sheet_at s).labels) e)
 
   -- from the count on it is not
-  pub number-not_there : v.count ≤ i → refuses not_there ≡ subscription_says (sheet_at s) i
+  pub number-not_there : v.count ≤ i → refuses NotThere ≡ subscription_says (sheet_at s) i
   unfolding subscription_says is_subscription
   number-not_there h = pick_false _ _ _ _ (rw (← stand.counted) (le-ltb i v.count h)) refl
 

@@ -8,7 +8,7 @@ use borrow.Author.Tests.{ltb-true, leb-true, le-leb, le-ltb}
 use Rattle.base.specs.Choice.{pick}
 use Rattle.base.specs.Standing.{place_after, length-standing, get_or-standing, run_at}
 use Rattle.base.specs.declared.Cur.TheVariants.{At}
-use Rattle.meaning.specs.Numbers.{count_outside, most_steps, most_patterns}
+use Rattle.meaning.specs.Numbers.{most_steps, most_patterns}
 use Rattle.meaning.specs.Reader.{read}
 use Rattle.meaning.specs.Forest.{Forest, none, forest, steps_of}
 use Rattle.meaning.specs.Sections.{Sheet, sheet, pattern}
@@ -21,6 +21,7 @@ use Rattle.reading.specs.StepSection.{steps_section}
 use Rattle.places.specs.Answer.{passed}
 use Rattle.subscriptions.specs.Taken.{steps_filled, pattern_at, itself, pattern_places, subscription_count, subscriptions_of}
 use Rattle.places.specs.InTurn.{each_place}
+use Rattle.meaning.specs.declared.Refusal.TheVariants.{CountOutside}
 
 module _ (s : List ℕ) (known x : ℕ) where
   -- a pattern that was judged at x is taken whole
@@ -28,7 +29,7 @@ module _ (s : List ℕ) (known x : ℕ) where
   unfolding pattern_section pattern_at after_pattern pick
   taken-whole y h =
       let a = passed (ltb x (length s)) _ 1 y h in
-      let b = passed (leb (get_or s x 0) most_steps) _ count_outside y a.1 in
+      let b = passed (leb (get_or s x 0) most_steps) _ CountOutside y a.1 in
       let inside : x < length s = ltb-true x (length s) a.0 in
       let far : y ≡ x + 1 + 3 * get_or s x 0 = (pattern_section s known x).leads y h in
       let within : y ≤ length s = (pattern_section s known x).within y (omega arith) h in
@@ -55,7 +56,7 @@ module _ (s : List ℕ) (known x : ℕ) where
   taken-sound y h =
       let n = get_or s x 0 in
       let a = passed (ltb x (length s)) _ 1 y h in
-      let b = passed (leb n most_steps) _ count_outside y a.1 in
+      let b = passed (leb n most_steps) _ CountOutside y a.1 in
       let few : n ≤ most_steps = leb-true n most_steps b.0 in
       let were = section-read (steps_section s known (x + 1) n) y b.1 in
       let written : steps_of (forest (steps_at s (x + 1) n)) ≡ steps_at s (x + 1) n =

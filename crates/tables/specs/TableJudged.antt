@@ -8,7 +8,7 @@ use Rattle.base.specs.Choice.{pick}
 use Rattle.base.specs.Loops.{run}
 use Rattle.base.specs.Standing.{place_after, length-standing, get_or-standing, run_at}
 use Rattle.base.specs.declared.Cur.TheVariants.{At}
-use Rattle.meaning.specs.Numbers.{count_outside, most_entries}
+use Rattle.meaning.specs.Numbers.{most_entries}
 use Rattle.meaning.specs.Forest.{Forest}
 use Rattle.meaning.specs.Sections.{Entry}
 use Rattle.meaning.specs.Building.{no_entry}
@@ -22,6 +22,7 @@ use Rattle.tables.specs.declared.Entries.{Entries}
 use Rattle.tables.specs.TableSection.{after_entry, entry_in, entry_taken, table_at, entry_places, table_entries}
 use Rattle.tables.specs.TableSection.{entry_section, table_section, table_place}
 use Rattle.places.specs.InTurn.{each_place}
+use Rattle.meaning.specs.declared.Refusal.TheVariants.{CountOutside}
 
 -- as many as the table has entries, at most 64, each the entry at its place, its pattern well formed
 pub record EntriesStand (t : List ℕ) (v : Entries) : Type 0 where
@@ -45,7 +46,7 @@ module _ (s t : List ℕ) (y : ℕ) (h : table_place s t ≡ At y) where
   unfolding table_section
   all_read =
       let a = passed (ltb 0 (length t)) _ 1 y h in
-      let b = passed (leb (get_or t 0 0) most_entries) _ count_outside y a.1 in
+      let b = passed (leb (get_or t 0 0) most_entries) _ CountOutside y a.1 in
       let e = passed_on (run (each_place (entry_section t (get_or s 0 0))) (get_or t 0 0) 0 1) _ y b.1 in
       record { few = b.0; final = e.0; all_read = e.1 }
 

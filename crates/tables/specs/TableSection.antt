@@ -6,7 +6,7 @@ use Rattle.base.specs.Choice.{pick}
 use Rattle.base.specs.Loops.{and_then}
 use Rattle.base.specs.Standing.{standing}
 use Rattle.base.specs.declared.Cur.{Cur}
-use Rattle.meaning.specs.Numbers.{count_outside, most_entries}
+use Rattle.meaning.specs.Numbers.{most_entries}
 use Rattle.meaning.specs.Reader.{repeat}
 use Rattle.meaning.specs.Sections.{Entry, entry, table}
 use Rattle.shapes.specs.declared.Entry as shapes
@@ -18,6 +18,7 @@ use Rattle.subscriptions.specs.Taken.{itself, pattern_at}
 use Rattle.tables.specs.declared.Entries.{Entries}
 use Rattle.places.specs.Fields.{byte_then, number_then, unless_then, then_given, section_then, end_then}
 use Rattle.places.specs.InTurn.{repeated}
+use Rattle.meaning.specs.declared.Refusal.TheVariants.{CountOutside}
 
 -- ---- where entries stand: eight bytes of members, then the pattern
 
@@ -70,7 +71,7 @@ unfolding table sheet_at table_at entry_section
 table_section s t =
     stands_as (table_at t) _ (
     byte_then λ n.
-    unless_then count_outside (leb n most_entries) (
+    unless_then CountOutside (leb n most_entries) (
     section_then _ (read_as (ap (λ (k : ℕ). repeat n (entry k)) (sym (labels-counted s))) (repeated (entry_section t (get_or s 0 0)) n 1)) λ y.
     end_then _))
     refl refl

@@ -3,9 +3,9 @@ use Rattle.std.specs.Prelude.{ℕ, ◌≡◌, Bool, true, false, List, leb, leng
 use Rattle.std.proofs.Common.{sym, ◌∙◌}
 use Rattle.std.proofs.Math.Path.{ap}
 use Rattle.base.specs.Choice.{pick}
-use Rattle.meaning.specs.Numbers.{no_room}
 use Rattle.meaning.specs.Calls.{Writing, refuses, writes, with_room, after}
 use Rattle.writing.specs.OutputAfter.{written_over, after_writing}
+use Rattle.meaning.specs.declared.Refusal.TheVariants.{NoRoom}
 
 -- an answer and an output that a call which writes w gives
 abbrev pub Gives : {A R : Type 0} → (Writing A → R) → List ℕ → Writing A → R → List ℕ → Type 0
@@ -32,6 +32,6 @@ module _ {A R : Type 0} (answered : Writing A → R) (out : List ℕ) where
     gives-written t = (rw (sym said ∙ t), gives_left)
 
     -- where there is none it is refused
-    pub gives-no_room : room ≡ false → Gives answered out (writes x bs) (answered (refuses no_room)) now
+    pub gives-no_room : room ≡ false → Gives answered out (writes x bs) (answered (refuses NoRoom)) now
     unfolding with_room pick
     gives-no_room f = (rw (sym said ∙ f), gives_left)

@@ -9,8 +9,8 @@ use Rattle.std.proofs.Math.ListN.{drop}
 use Rattle.std.proofs.lemmas.List.Edits.{sets}
 use Rattle.std.proofs.Math.Seq.{sets-eq}
 use Rattle.base.specs.Choice.{pick, pick_true, pick_false}
-use Rattle.meaning.specs.Numbers.{no_room}
 use Rattle.meaning.specs.Calls.{writes, refuses, with_room, after}
+use Rattle.meaning.specs.declared.Refusal.TheVariants.{NoRoom}
 
 -- the bytes, and the output as found behind them; where they do not fit, the output as found
 unfoldable pub written_over : List ℕ → List ℕ → List ℕ
@@ -21,7 +21,7 @@ pub after_writing : {A : Type 0} (out bs : List ℕ) (x : A) → after out (with
 unfolding written_over after with_room pick
 after_writing {A} out bs x = go (leb (length bs) (length out))
   where
-    go : (room : Bool) → after out (pick room (writes x bs) (refuses no_room)) ≡ pick room (bs ++ drop (length bs) out) out
+    go : (room : Bool) → after out (pick room (writes x bs) (refuses NoRoom)) ≡ pick room (bs ++ drop (length bs) out) out
     go true = refl
     go false = refl
 
