@@ -1,5 +1,5 @@
 -- What the merge and the build answer, and how they leave the output: where something is written, where there is no room, where they refuse.
-use Rattle.std.specs.Prelude.{ℕ, ◌≡◌, Bool, true, false, List, leb, length}
+use Rattle.std.specs.Prelude.{ℕ, ◌≡◌, Bool, true, false, List, leb, length, Result, Ok, Err}
 use Rattle.std.proofs.Common.{ap, ap₂, ◌∙◌}
 use Rattle.base.specs.Choice.{pick}
 use Rattle.meaning.specs.Forest.{Forest}
@@ -9,9 +9,7 @@ use Rattle.meaning.specs.Building.{Table, entries_from, build}
 use Rattle.meaning.specs.Written.{pattern_bytes, table_bytes}
 use Rattle.meaning.specs.Calls.{subscription, Writing, refuses, writes, merge_answer, build_answer}
 use Rattle.meaning.specs.declared.Merged.{Merged}
-use Rattle.meaning.specs.declared.Merged.TheVariants as merged
 use Rattle.meaning.specs.declared.Built.{Built}
-use Rattle.meaning.specs.declared.Built.TheVariants as built
 use Rattle.shapes.specs.Shapes.{pattern_of, table_of}
 use Rattle.shapes.specs.declared.Pattern.{Pattern}
 use Rattle.merging.specs.Merges.{IsMerge}
@@ -22,28 +20,29 @@ use Rattle.writing.specs.OutputAfter.{written_over}
 use Rattle.writing.specs.Gives.{Gives, gives-refusal, gives_same, gives-written, gives-no_room}
 use Rattle.answers.specs.Says.{both_there, marked_says, merge_says, table_says, build_says}
 use Rattle.meaning.specs.declared.Refusal.TheVariants.{NotThere, NoRoom}
+use Rattle.meaning.specs.declared.Refusal.{Refusal}
 
 -- ---- the merge of two subscriptions
 
 module _ (out : List ℕ) where
   -- a refusal
-  pub merge-refuses : (n : ℕ) (w : Writing Bool) → refuses n ≡ w → Gives merge_answer out w (merged.Refused n) out
+  pub merge-refuses : (n : Refusal) (w : Writing Bool) → refuses n ≡ w → Gives merge_answer out w (Err n) out
   unfolding merge_answer
   merge-refuses = gives-refusal merge_answer out
 
   -- what is written, by its equation
-  pub merge-same : (v w : Writing Bool) → v ≡ w → (r : Merged) (now : List ℕ) → Gives merge_answer out v r now → Gives merge_answer out w r now
+  pub merge-same : (v w : Writing Bool) → v ≡ w → (r : Result Merged Refusal) (now : List ℕ) → Gives merge_answer out v r now → Gives merge_answer out w r now
   merge-same = gives_same merge_answer out
 
   module _ (p : Forest) (clipped room : Bool) (said : room ≡ leb (length (pattern_bytes p)) (length out)) (now : List ℕ)
       (over : now ≡ written_over out (pattern_bytes p)) where
     -- where there is room the length is that of the bytes
-    pub merge-written : room ≡ true → (n : ℕ) → n ≡ length (pattern_bytes p) → Gives merge_answer out (marked_says p clipped) (merged.Wrote n clipped) now
+    pub merge-written : room ≡ true → (n : ℕ) → n ≡ length (pattern_bytes p) → Gives merge_answer out (marked_says p clipped) (Ok (record { length = n; clipped = clipped })) now
     unfolding marked_says merge_answer
     merge-written t n long = rw long (gives-written merge_answer out clipped (pattern_bytes p) room said now over t)
 
     -- where there is none it is refused with 10
-    pub merge-no_room : room ≡ false → Gives merge_answer out (marked_says p clipped) (merged.Refused NoRoom) now
+    pub merge-no_room : room ≡ false → Gives merge_answer out (marked_says p clipped) (Err NoRoom) now
     unfolding marked_says merge_answer
     merge-no_room = gives-no_room merge_answer out clipped (pattern_bytes p) room said now over
 
@@ -62,23 +61,23 @@ merge-not_there sh i j there = rw there
 
 module _ (out : List ℕ) where
   -- a refusal
-  pub build-refuses : (n : ℕ) (w : Writing ℕ) → refuses n ≡ w → Gives build_answer out w (built.Refused n) out
+  pub build-refuses : (n : Refusal) (w : Writing ℕ) → refuses n ≡ w → Gives build_answer out w (Err n) out
   unfolding build_answer
   build-refuses = gives-refusal build_answer out
 
   -- what is written, by its equation
-  pub build-same : (v w : Writing ℕ) → v ≡ w → (r : Built) (now : List ℕ) → Gives build_answer out v r now → Gives build_answer out w r now
+  pub build-same : (v w : Writing ℕ) → v ≡ w → (r : Result Built Refusal) (now : List ℕ) → Gives build_answer out v r now → Gives build_answer out w r now
   build-same = gives_same build_answer out
 
   module _ (es : List Entry) (rounds : ℕ) (room : Bool) (said : room ≡ leb (length (table_bytes es)) (length out)) (now : List ℕ)
       (over : now ≡ written_over out (table_bytes es)) where
     -- where there is room the length is that of the bytes
-    pub build-written : room ≡ true → (n : ℕ) → n ≡ length (table_bytes es) → Gives build_answer out (writes rounds (table_bytes es)) (built.Wrote n rounds) now
+    pub build-written : room ≡ true → (n : ℕ) → n ≡ length (table_bytes es) → Gives build_answer out (writes rounds (table_bytes es)) (Ok (record { length = n; rounds = rounds })) now
     unfolding build_answer
     build-written t n long = rw long (gives-written build_answer out rounds (table_bytes es) room said now over t)
 
     -- where there is none it is refused with 10
-    pub build-no_room : room ≡ false → Gives build_answer out (writes rounds (table_bytes es)) (built.Refused NoRoom) now
+    pub build-no_room : room ≡ false → Gives build_answer out (writes rounds (table_bytes es)) (Err NoRoom) now
     unfolding build_answer
     build-no_room = gives-no_room build_answer out rounds (table_bytes es) room said now over
 

@@ -1,12 +1,11 @@
 -- What the calls say of a sheet that was judged; and each answer, from the place where judging the sheet ended.
-use Rattle.std.specs.Prelude.{ℕ, ◌≤◌, ◌<◌, ◌≡◌, Bool, ◌&&◌, List, ltb}
+use Rattle.std.specs.Prelude.{ℕ, ◌≤◌, ◌<◌, ◌≡◌, Bool, ◌&&◌, List, ltb, Result, Ok, Err}
 use Rattle.std.proofs.Math.Path.{refl}
 use Rattle.std.proofs.Common.{ap, ap₂, ◌∙◌}
 use Rattle.std.proofs.Math.Bool.{true, false}
 use borrow.Author.Tests.{lt-ltb, le-ltb}
 use Rattle.base.specs.Bools.{and_both}
 use Rattle.base.specs.Choice.{pick, pick_true, pick_false}
-use Rattle.base.specs.declared.Cur.TheVariants.{At, No}
 use Rattle.meaning.specs.Forest.{Forest}
 use Rattle.meaning.specs.Sections.{Sheet}
 use Rattle.meaning.specs.Covering.{covers}
@@ -14,8 +13,6 @@ use Rattle.meaning.specs.Merging.{merge}
 use Rattle.meaning.specs.Building.{Table, build}
 use Rattle.meaning.specs.Written.{pattern_bytes, table_bytes}
 use Rattle.meaning.specs.Calls.{is_subscription, subscription, covers_answer, Writing, refuses, writes, merge_writing, build_writing}
-use Rattle.meaning.specs.declared.Asked.{Asked}
-use Rattle.meaning.specs.declared.Asked.TheVariants as asked
 use Rattle.shapes.specs.Shapes.{pattern_of}
 use Rattle.shapes.specs.declared.Pattern.{Pattern}
 use Rattle.reading.specs.SheetPlaces.{sheet_at}
@@ -24,14 +21,15 @@ use Rattle.reading.specs.SheetJudged.{sheet-said, sheet-refused}
 use Rattle.subscriptions.specs.declared.Subscriptions.{Subscriptions}
 use Rattle.subscriptions.specs.Subscribed.{SubscriptionsStand}
 use Rattle.meaning.specs.declared.Refusal.TheVariants.{NotThere}
+use Rattle.meaning.specs.declared.Refusal.{Refusal}
 
 -- both numbers are those of subscriptions
 unfoldable pub both_there : Sheet → ℕ → ℕ → Bool
 both_there sh i j = is_subscription sh i && is_subscription sh j
 
 -- whether i covers j
-unfoldable pub covers_says : Sheet → ℕ → ℕ → Asked
-covers_says sh i j = pick (both_there sh i j) (asked.Said (covers (subscription sh i) (subscription sh j))) (asked.Refused NotThere)
+unfoldable pub covers_says : Sheet → ℕ → ℕ → Result Bool Refusal
+covers_says sh i j = pick (both_there sh i j) (Ok (covers (subscription sh i) (subscription sh j))) (Err NotThere)
 
 -- a merge with its mark
 unfoldable pub marked_says : Forest → Bool → Writing Bool
@@ -76,12 +74,12 @@ module _ {s : List ℕ} {v : Subscriptions} (stand : SubscriptionsStand s v) (i 
 -- where both are there, one covers the other or not
 pub covers_there : (sh : Sheet) (i j : ℕ) (p q : Pattern) (said : Bool) → both_there sh i j ≡ true → pattern_of p ≡ subscription sh i
     → pattern_of q ≡ subscription sh j
-    → said ≡ covers (pattern_of p) (pattern_of q) → asked.Said said ≡ covers_says sh i j
+    → said ≡ covers (pattern_of p) (pattern_of q) → Ok said ≡ covers_says sh i j
 unfolding covers_says
-covers_there sh i j p q said there e f is = pick_true _ _ _ (both_there sh i j) there (ap asked.Said (is ∙ ap₂ covers e f))
+covers_there sh i j p q said there e f is = pick_true _ _ _ (both_there sh i j) there (ap Ok (is ∙ ap₂ covers e f))
 
 -- where one is not there, it is refused
-pub covers-not_there : (sh : Sheet) (i j : ℕ) → both_there sh i j ≡ false → asked.Refused NotThere ≡ covers_says sh i j
+pub covers-not_there : (sh : Sheet) (i j : ℕ) → both_there sh i j ≡ false → Err NotThere ≡ covers_says sh i j
 unfolding covers_says
 covers-not_there sh i j there = pick_false _ _ _ (both_there sh i j) there refl
 
@@ -90,29 +88,29 @@ covers-not_there sh i j there = pick_false _ _ _ (both_there sh i j) there refl
 module _ (s : List ℕ) where
   module _ (i j : ℕ) where
     -- whether i covers j
-    pub covers-said : (y : ℕ) → sheet_place s ≡ At y → covers_says (sheet_at s) i j ≡ covers_answer s i j
+    pub covers-said : (y : ℕ) → sheet_place s ≡ Ok y → covers_says (sheet_at s) i j ≡ covers_answer s i j
     unfolding covers_answer covers_says both_there
-    covers-said = sheet-said s asked.Refused (λ sh. covers_says sh i j)
+    covers-said = sheet-said s Err (λ sh. covers_says sh i j)
 
-    pub covers-refused : (n : ℕ) → sheet_place s ≡ No n → asked.Refused n ≡ covers_answer s i j
+    pub covers-refused : (n : Refusal) → sheet_place s ≡ Err n → Err n ≡ covers_answer s i j
     unfolding covers_answer covers_says both_there
-    covers-refused = sheet-refused s asked.Refused (λ sh. covers_says sh i j)
+    covers-refused = sheet-refused s Err (λ sh. covers_says sh i j)
 
     -- the merge of i with j
-    pub merge-said : (y : ℕ) → sheet_place s ≡ At y → merge_says (sheet_at s) i j ≡ merge_writing s i j
+    pub merge-said : (y : ℕ) → sheet_place s ≡ Ok y → merge_says (sheet_at s) i j ≡ merge_writing s i j
     unfolding merge_writing merge_says marked_says both_there
     merge-said = sheet-said s refuses (λ sh. merge_says sh i j)
 
-    pub merge-refused : (n : ℕ) → sheet_place s ≡ No n → refuses n ≡ merge_writing s i j
+    pub merge-refused : (n : Refusal) → sheet_place s ≡ Err n → refuses n ≡ merge_writing s i j
     unfolding merge_writing merge_says marked_says both_there
     merge-refused = sheet-refused s refuses (λ sh. merge_says sh i j)
 
   module _ (limit : ℕ) where
     -- the table for a limit
-    pub build-said : (y : ℕ) → sheet_place s ≡ At y → build_says (sheet_at s) limit ≡ build_writing s limit
+    pub build-said : (y : ℕ) → sheet_place s ≡ Ok y → build_says (sheet_at s) limit ≡ build_writing s limit
     unfolding build_writing build_says table_says
     build-said = sheet-said s refuses (λ sh. build_says sh limit)
 
-    pub build-refused : (n : ℕ) → sheet_place s ≡ No n → refuses n ≡ build_writing s limit
+    pub build-refused : (n : Refusal) → sheet_place s ≡ Err n → refuses n ≡ build_writing s limit
     unfolding build_writing build_says table_says
     build-refused = sheet-refused s refuses (λ sh. build_says sh limit)

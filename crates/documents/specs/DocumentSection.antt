@@ -1,20 +1,18 @@
 -- Documents beside a sheet that was judged: how they are judged by places in their bytes, and that this is how the paper
 -- reads them.
 use Prim.Native.Nat.{ℕ, suc, ◌+◌, ◌≤◌}
-use Rattle.std.specs.Prelude.{◌≡◌, ◌&&◌, List, leb, ltb, length, get_or, drop}
+use Rattle.std.specs.Prelude.{◌≡◌, ◌&&◌, List, leb, ltb, length, get_or, drop, Ok, Err}
 use Rattle.std.proofs.Math.Path.{refl}
 use Rattle.std.proofs.Common.{sym, ap, ◌∙◌, add-one}
 use native.Mathlib.Omega.{arith}
 use Rattle.base.specs.Choice.{pick}
 use Rattle.base.specs.Loops.{and_then, run}
 use Rattle.base.specs.Standing.{place_after}
-use Rattle.base.specs.declared.Cur.{Cur}
-use Rattle.base.specs.declared.Cur.TheVariants.{At, No}
 use Rattle.meaning.specs.Numbers.{most_labels, most_nodes}
 use Rattle.meaning.specs.Reader.{◌>>=◌, ◌>>◌, give, unless, number, end}
 use Rattle.meaning.specs.Sections.{node_parent, Node, a_node, nodes, Document, document}
 use Rattle.shapes.specs.Shapes.{node_at, after_node, nodes_at}
-use Rattle.places.specs.Bytes.{pair_at, end_place}
+use Rattle.places.specs.Bytes.{pair_at, end_place, Place}
 use Rattle.places.specs.Answer.{answer, and_then-pick}
 use Rattle.places.specs.Section.{Section, judged_as, read_as, stands_as}
 use Rattle.labels.specs.LabelPlaces.{after_label, texts_at, labels_in}
@@ -27,11 +25,11 @@ use Rattle.meaning.specs.declared.Refusal.TheVariants.{EndsEarly, CountOutside, 
 -- ---- nodes
 
 -- the last byte of a node, its label
-unfoldable pub node_label : List ℕ → ℕ → ℕ → Cur
+unfoldable pub node_label : List ℕ → ℕ → ℕ → Place
 node_label d known x =
     pick (ltb x (length d))
-    (pick (leb 1 (get_or d x 0)) (pick (leb (get_or d x 0) known) (At (x + 1)) (No LabelOutside)) (No LabelOutside))
-    (No EndsEarly)
+    (pick (leb 1 (get_or d x 0)) (pick (leb (get_or d x 0) known) (Ok (x + 1)) (Err LabelOutside)) (Err LabelOutside))
+    (Err EndsEarly)
 
 module _ (d : List ℕ) (known : ℕ) where
   -- a node at x, after i others, with so many labels
@@ -46,22 +44,22 @@ module _ (d : List ℕ) (known : ℕ) where
       given _)))
       refl refl
 
-  abbrev pub node_place : ℕ → ℕ → Cur
+  abbrev pub node_place : ℕ → ℕ → Place
   node_place i x = (node_section i x).place
 
   -- three bytes a node
-  pub node-leads : (i x y : ℕ) → node_place i x ≡ At y → y ≡ after_node x
+  pub node-leads : (i x y : ℕ) → node_place i x ≡ Ok y → y ≡ after_node x
   unfolding node_section after_node
   node-leads i x y h = (node_section i x).leads y h ∙ omega arith
 
-  pub node-within : (i x y : ℕ) → x ≤ length d → node_place i x ≡ At y → y ≤ length d
+  pub node-within : (i x y : ℕ) → x ≤ length d → node_place i x ≡ Ok y → y ≤ length d
   node-within i x y = (node_section i x).within y
 
   pub node-reads : (i x : ℕ) → a_node known (i + 1) (drop x d) ≡ answer d (node_at d x) (node_place i x)
   unfolding node_section
   node-reads i x = (node_section i x).reads
 
-  pub node-next : (i y z k : ℕ) → k ≡ i + 1 → node_place i y ≡ At z → suc k ≡ i + 1 + 1
+  pub node-next : (i y z k : ℕ) → k ≡ i + 1 → node_place i y ≡ Ok z → suc k ≡ i + 1 + 1
   node-next i y z k h e = ap suc h ∙ sym (add-one (i + 1))
 
   -- n nodes from a place on
@@ -74,15 +72,15 @@ module _ (d : List ℕ) (known : ℕ) where
       refl refl
 
   -- the nodes from their count at x on
-  unfoldable pub nodes_place : ℕ → Cur
+  unfoldable pub nodes_place : ℕ → Place
   nodes_place x =
       pick (ltb x (length d))
       (pick (ltb (x + 1) (length d))
       (pick (leb 1 (pair_at d x))
-      (pick (leb (pair_at d x) most_nodes) (run node_place (pair_at d x) 0 (x + 2)) (No CountOutside))
-      (No CountOutside))
-      (No EndsEarly))
-      (No EndsEarly)
+      (pick (leb (pair_at d x) most_nodes) (run node_place (pair_at d x) 0 (x + 2)) (Err CountOutside))
+      (Err CountOutside))
+      (Err EndsEarly))
+      (Err EndsEarly)
 
 -- ---- a document
 
@@ -122,5 +120,5 @@ document_section s d =
     refl refl
 
 -- where a document ends, beside a sheet, or the number of its first fault
-abbrev pub document_place : List ℕ → List ℕ → Cur
+abbrev pub document_place : List ℕ → List ℕ → Place
 document_place s d = (document_section s d).place

@@ -1,12 +1,10 @@
 -- A table judged by places beside its sheet: its bytes first, then whether it is fair.
-use Rattle.std.specs.Prelude.{ℕ, ◌≡◌, Bool, true, false, ◌&&◌, List, length}
+use Rattle.std.specs.Prelude.{ℕ, ◌≡◌, Bool, true, false, ◌&&◌, List, length, Ok, Err}
 use Rattle.std.proofs.Math.Path.{refl, sym, ap}
 use Rattle.std.proofs.Common.{◌∙◌}
 use Rattle.base.specs.Lists.{every}
 use Rattle.base.specs.Choice.{pick}
 use Rattle.base.specs.Loops.{and_then}
-use Rattle.base.specs.declared.Cur.{Cur}
-use Rattle.base.specs.declared.Cur.TheVariants.{At, No}
 use Rattle.places.specs.Section.{Section, stands_as, section-number}
 use Rattle.places.specs.Reached.{reached, section-judged, reached-twice, number-after}
 use Rattle.reading.specs.SheetSection.{sheet_section}
@@ -17,7 +15,7 @@ use Rattle.meaning.specs.Fair.{fair, each_in_one}
 use Rattle.meaning.specs.Calls.{judged, fair_table, table_number}
 use Rattle.reading.specs.SheetPlaces.{sheet_at}
 use Rattle.reading.specs.SheetSection.{sheet_place}
-use Rattle.places.specs.Bytes.{number_at}
+use Rattle.places.specs.Bytes.{number_at, Place}
 use Rattle.places.specs.Answer.{passed, passed_on}
 use Rattle.reading.specs.SheetJudged.{sheet-judged, sheet-stands}
 use Rattle.subscriptions.specs.declared.Subscriptions.{Subscriptions}
@@ -29,6 +27,7 @@ use Rattle.tables.specs.TableJudged.{EntriesStand, entries-stand}
 use Rattle.fairness.specs.Each.{is_fit, fair_parts}
 use Rattle.places.specs.Fields.{given, unless_then, section_then}
 use Rattle.meaning.specs.declared.Refusal.TheVariants.{NotFair}
+use Rattle.meaning.specs.declared.Refusal.{Refusal}
 
 -- whether the table is fair beside the sheet, as they stand
 unfoldable pub fair_at : List ℕ → List ℕ → Bool
@@ -45,14 +44,14 @@ fair_table_section s t =
     refl refl
 
 -- where the table ends, or the number of its first fault; 12 last
-abbrev pub fair_table_place : List ℕ → List ℕ → Cur
+abbrev pub fair_table_place : List ℕ → List ℕ → Place
 fair_table_place s t = (fair_table_section s t).place
 
 -- the sheet first
-unfoldable pub fair_place : List ℕ → List ℕ → Cur
+unfoldable pub fair_place : List ℕ → List ℕ → Place
 fair_place s t = and_then (sheet_place s) (λ x. fair_table_place s t)
 
-module _ {B : Type 0} (s t : List ℕ) (refuse : ℕ → B) where
+module _ {B : Type 0} (s t : List ℕ) (refuse : Refusal → B) where
   -- the sheet first, then the table
   pub fair-judged : (next : Sheet → List Entry → B)
       → judged (sheet s) refuse (λ sh. judged (fair_table sh t) refuse (next sh)) ≡ reached (fair_place s t) refuse (next (sheet_at s) (table_at t))
@@ -86,7 +85,7 @@ all_fit s t e h k l =
 
 module _ (s t : List ℕ) where
   -- where both were judged, subscriptions and entries stand
-  pub sheet-table-stand : {y : ℕ} {v : Subscriptions} {w : Entries} → sheet_table_place s t ≡ At y → v ≡ subscriptions_of s
+  pub sheet-table-stand : {y : ℕ} {v : Subscriptions} {w : Entries} → sheet_table_place s t ≡ Ok y → v ≡ subscriptions_of s
       → w ≡ table_entries t → SubscriptionsStand s v × EntriesStand t w
   unfolding sheet_table_place
   sheet-table-stand {y} {v} {w} h e f =
@@ -95,36 +94,36 @@ module _ (s t : List ℕ) where
       (subscriptions_stand s v sound e, entries-stand s t y a.2 w f)
 
   -- the bytes of both first, 12 last
-  last : fair_place s t ≡ and_then (sheet_table_place s t) (λ x. pick (fair_at s t) (At x) (No NotFair))
+  last : fair_place s t ≡ and_then (sheet_table_place s t) (λ x. pick (fair_at s t) (Ok x) (Err NotFair))
   unfolding fair_place fair_table_section sheet_table_place and_then
   last = go (sheet_place s)
     where
-      go : (c : Cur) → and_then c (λ x. and_then (table_place s t) (λ y. pick (fair_at s t) (At y) (No NotFair)))
-          ≡ and_then (and_then c (λ x. table_place s t)) (λ y. pick (fair_at s t) (At y) (No NotFair))
-      go (At x) = refl
-      go (No n) = refl
+      go : (c : Place) → and_then c (λ x. and_then (table_place s t) (λ y. pick (fair_at s t) (Ok y) (Err NotFair)))
+          ≡ and_then (and_then c (λ x. table_place s t)) (λ y. pick (fair_at s t) (Ok y) (Err NotFair))
+      go (Ok x) = refl
+      go (Err n) = refl
 
   -- the table is fair
-  pub place-fair : {y : ℕ} {r : Bool} → sheet_table_place s t ≡ At y → r ≡ fair_at s t → r ≡ true → At y ≡ fair_place s t
+  pub place-fair : {y : ℕ} {r : Bool} → sheet_table_place s t ≡ Ok y → r ≡ fair_at s t → r ≡ true → Ok y ≡ fair_place s t
   unfolding and_then pick
   place-fair h e k = sym (last ∙ rw (h, ← e, k))
 
   -- it is not
-  pub place-not_fair : {y : ℕ} {r : Bool} → sheet_table_place s t ≡ At y → r ≡ fair_at s t → r ≡ false → No NotFair ≡ fair_place s t
+  pub place-not_fair : {y : ℕ} {r : Bool} → sheet_table_place s t ≡ Ok y → r ≡ fair_at s t → r ≡ false → Err NotFair ≡ fair_place s t
   unfolding and_then pick
   place-not_fair h e k = sym (last ∙ rw (h, ← e, k))
 
   -- the bytes are refused
-  pub place-refused : {m : ℕ} → sheet_table_place s t ≡ No m → No m ≡ fair_place s t
+  pub place-refused : {m : Refusal} → sheet_table_place s t ≡ Err m → Err m ≡ fair_place s t
   unfolding and_then
   place-refused h = sym (last ∙ rw h)
 
   -- where the table check was passed, the table is fair
-  pub was_fair : {y : ℕ} → fair_place s t ≡ At y → fair_at s t ≡ true
+  pub was_fair : {y : ℕ} → fair_place s t ≡ Ok y → fair_at s t ≡ true
   was_fair {y} h = (passed (fair_at s t) _ NotFair y (passed_on (sheet_table_place s t) _ y (sym last ∙ h)).2).0
 
   -- and subscriptions and entries stand
-  pub fair-stand : {y : ℕ} {v : Subscriptions} {w : Entries} → fair_place s t ≡ At y → v ≡ subscriptions_of s → w ≡ table_entries t
+  pub fair-stand : {y : ℕ} {v : Subscriptions} {w : Entries} → fair_place s t ≡ Ok y → v ≡ subscriptions_of s → w ≡ table_entries t
       → SubscriptionsStand s v × EntriesStand t w
   fair-stand {y} h e f =
       let a = passed_on (sheet_table_place s t) _ y (sym last ∙ h) in

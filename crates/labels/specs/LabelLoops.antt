@@ -9,13 +9,21 @@ use Rattle.std.proofs.Math.Seq.{drop-cons, take_all}
 use native.Mathlib.Omega.{arith}
 use Rattle.std.proofs.Math.Numerals.{add-one}
 use borrow.Author.Tests.{eq-eqb, ne_eqb}
+use lib.Pointwise.{pointwise}
 use Rattle.base.specs.Standing.{place_after, get_or-standing}
 use Rattle.meaning.specs.Sections.{same_label}
 use Rattle.meaning.specs.LabelBytes.{label_at}
 use Rattle.labels.specs.LabelPlaces.{text_at, after_label, texts_at, labels_in}
 use Rattle.labels.specs.LabelSection.{length-texts}
 
--- ---- two labels, byte by byte
+-- ---- two labels, byte by byte: equal lists of bytes
+
+pub same-pointwise : (a b : List ℕ) → pointwise eqb a b ≡ same_label a b
+unfolding same_label
+same-pointwise [] [] = refl
+same-pointwise [] (y ∷ b) = refl
+same-pointwise (x ∷ a) [] = refl
+same-pointwise (x ∷ a) (y ∷ b) = ap (λ (t : Bool). eqb x y && t) (same-pointwise a b)
 
 -- labels of different lengths are not the same
 pub unequal_lengths : (a b : List ℕ) → (length a ≡ length b → ⊥) → false ≡ same_label a b

@@ -1,5 +1,5 @@
 -- Sections of labels: how they are judged by places in their bytes, and that this is how the paper reads them.
-use Rattle.std.specs.Prelude.{ℕ, ◌+◌, ◌≤◌, ◌≡◌, List, [], ◌∷◌, ◌++◌, leb, ltb, length, drop}
+use Rattle.std.specs.Prelude.{ℕ, ◌+◌, ◌≤◌, ◌≡◌, List, [], ◌∷◌, ◌++◌, leb, ltb, length, drop, Ok}
 use Rattle.std.proofs.Math.Path.{refl, sym, ap}
 use Rattle.std.proofs.Common.{◌∙◌, append_assoc, append-nil}
 use Rattle.std.proofs.Math.Numerals.{add-one}
@@ -7,8 +7,6 @@ use Rattle.base.specs.Choice.{pick_true}
 use Rattle.base.specs.Lists.{some}
 use Rattle.base.specs.ListLaws.{some-append}
 use Rattle.base.specs.Standing.{place_after, place_after-last, standing, standing-last, length-standing}
-use Rattle.base.specs.declared.Cur.{Cur}
-use Rattle.base.specs.declared.Cur.TheVariants.{At}
 use Rattle.meaning.specs.Numbers.{longest_label}
 use Rattle.meaning.specs.Sections.{same_label, label, labels}
 use Rattle.labels.specs.LabelPlaces.{text_at, after_label, texts_at}
@@ -16,7 +14,8 @@ use Rattle.places.specs.Answer.{answer, passed}
 use Rattle.places.specs.Section.{Section, stands_as}
 use Rattle.places.specs.InTurn.{in_turn}
 use Rattle.places.specs.Fields.{given, byte_then, bytes_then, unless_both, unless_either}
-use Rattle.meaning.specs.declared.Refusal.TheVariants.{LabelLength, LabelTwice}
+use Rattle.meaning.specs.declared.Refusal.TheVariants.{LabelLength, LabelTwice, EndsEarly}
+use Rattle.places.specs.Bytes.{Place}
 
 module _ (s : List ℕ) (k : ℕ) (d : List ℕ) (p : ℕ) where
   -- a label at x, the i-th of those from the place p on in d, beside the first k labels of the sheet s
@@ -29,7 +28,7 @@ module _ (s : List ℕ) (k : ℕ) (d : List ℕ) (p : ℕ) where
       unless_either LabelTwice (some (same_label text) (texts_at s 1 k)) (some (same_label text) (texts_at d p i)) (some-append _ _ _) (
       given text))
 
-  abbrev pub label_place : ℕ → ℕ → Cur
+  abbrev pub label_place : ℕ → ℕ → Place
   label_place i x = (label_section i x).place
 
   -- it is the label that stands there, whichever it is
@@ -38,11 +37,11 @@ module _ (s : List ℕ) (k : ℕ) (d : List ℕ) (p : ℕ) where
   label-reads i x = (label_section i x).reads
 
   -- the place after it
-  pub label-leads : (i x y : ℕ) → label_place i x ≡ At y → y ≡ after_label d x
+  pub label-leads : (i x y : ℕ) → label_place i x ≡ Ok y → y ≡ after_label d x
   unfolding label_section after_label
-  label-leads i x y h = pick_true _ _ _ _ (passed (ltb x (length d)) _ 1 y h).0 ((label_section i x).leads y h)
+  label-leads i x y h = pick_true _ _ _ _ (passed (ltb x (length d)) _ EndsEarly y h).0 ((label_section i x).leads y h)
 
-  pub label-within : (i x y : ℕ) → x ≤ length d → label_place i x ≡ At y → y ≤ length d
+  pub label-within : (i x y : ℕ) → x ≤ length d → label_place i x ≡ Ok y → y ≤ length d
   label-within i x y = (label_section i x).within y
 
   -- what is told of the i labels before x
@@ -50,7 +49,7 @@ module _ (s : List ℕ) (k : ℕ) (d : List ℕ) (p : ℕ) where
     pub place : x ≡ place_after (after_label d) p i
     pub before : t ≡ texts_at s 1 k ++ texts_at d p i
 
-  pub labels_told : (i x y : ℕ) (t : List (List ℕ)) → LabelsTold i x t → label_place i x ≡ At y
+  pub labels_told : (i x y : ℕ) (t : List (List ℕ)) → LabelsTold i x t → label_place i x ≡ Ok y
       → LabelsTold (i + 1) y (t ++ (text_at d x ∷ []))
   unfolding texts_at
   labels_told i x y t h e = record {
@@ -70,7 +69,7 @@ module _ (s : List ℕ) (k : ℕ) (d : List ℕ) (p : ℕ) where
       (record { place = refl; before = sym (append-nil (texts_at s 1 k)) }))
       refl refl
 
-  abbrev pub labels_place : ℕ → Cur
+  abbrev pub labels_place : ℕ → Place
   labels_place n = (labels_section n).place
 
 -- there are n of them

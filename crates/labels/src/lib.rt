@@ -12,8 +12,7 @@ ghost use Rattle.meaning.specs.LineCalls.{number_from};
 ghost use Rattle.labels.specs.LabelPlaces.{text_at, after_label, texts_at, labels_in};
 ghost use Rattle.labels.specs.LabelSection.{label_place, labels_place};
 
-use base::Cur;
-use meaning::{ENDS_EARLY, LABEL_LENGTH, LABEL_TWICE, LONGEST_LABEL};
+use meaning::{LONGEST_LABEL, Refusal};
 use places::byte_at;
 
 // The bytes of the label whose length byte stands at p.
@@ -46,31 +45,19 @@ fn after_label(s: &[u8], p: usize) -> usize
 fn same_label(a: &[u8], b: &[u8]) -> bool
     ensures { result ≡ same_label a.now b.now }
 {
-    if a.len() != b.len() {
-        return false;
-    }
-    let mut i = 0;
-    while i < a.len() {
-        if a[i] != b[i] {
-            return false;
-        }
-        i += 1;
-    }
-    true
+    a == b
 }
 
 // The text is one of the n labels from the place p on.
 fn occurs(text: &[u8], s: &[u8], p: usize, n: usize) -> bool
     ensures { result ≡ some (same_label text.now) (texts_at s.now p n) }
 {
-    let mut i = 0;
     let mut x = p;
-    while i < n {
+    for _ in 0..n {
         if same_label(text, text_at(s, x)) {
             return true;
         }
         x = after_label(s, x);
-        i += 1;
     }
     false
 }
@@ -80,12 +67,10 @@ pub fn number_of(text: &[u8], s: &[u8]) -> u8
     ensures { result ≡ number_from 1 (labels_in s.now) text.now }
 {
     let n = byte_at(s, 0);
-    let mut i = 0;
     let mut x = 1;
-    while i < n {
-        i += 1;
+    for i in 0..n {
         if same_label(text, text_at(s, x)) {
-            return i as u8;
+            return (i + 1) as u8;
         }
         x = after_label(s, x);
     }
@@ -93,50 +78,41 @@ pub fn number_of(text: &[u8], s: &[u8]) -> u8
 }
 
 // A label at x, the i-th from the place p on in d, beside the first k labels of the sheet s.
-fn label(s: &[u8], k: usize, d: &[u8], p: usize, i: usize, x: usize) -> Cur
+fn label(s: &[u8], k: usize, d: &[u8], p: usize, i: usize, x: usize) -> Result<usize, Refusal>
     ensures { result ≡ label_place s.now k d.now p i x }
 {
     if d.len() <= x {
-        return Cur::No(ENDS_EARLY);
+        return Err(Refusal::EndsEarly);
     }
     let long = byte_at(d, x);
     if long < 1 {
-        return Cur::No(LABEL_LENGTH);
+        return Err(Refusal::LabelLength);
     }
     if LONGEST_LABEL < long {
-        return Cur::No(LABEL_LENGTH);
+        return Err(Refusal::LabelLength);
     }
     if d.len() - (x + 1) < long {
-        return Cur::No(ENDS_EARLY);
+        return Err(Refusal::EndsEarly);
     }
     let text = text_at(d, x);
     if occurs(text, s, 1, k) {
-        return Cur::No(LABEL_TWICE);
+        return Err(Refusal::LabelTwice);
     }
     if occurs(text, d, p, i) {
-        return Cur::No(LABEL_TWICE);
+        return Err(Refusal::LabelTwice);
     }
-    Cur::At(x + 1 + long)
+    Ok(x + 1 + long)
 }
 
 // The n labels from the place p on in d, beside the first k labels of the sheet s.
-pub fn labels(s: &[u8], k: usize, d: &[u8], p: usize, n: usize) -> Cur
+pub fn labels(s: &[u8], k: usize, d: &[u8], p: usize, n: usize) -> Result<usize, Refusal>
     ensures { result ≡ labels_place s.now k d.now p n }
 {
-    let mut i = 0;
     let mut x = p;
-    while i < n {
-        match label(s, k, d, p, i, x) {
-            Cur::At(y) => {
-                x = y;
-            }
-            Cur::No(m) => {
-                return Cur::No(m);
-            }
-        }
-        i += 1;
+    for i in 0..n {
+        x = label(s, k, d, p, i, x)?;
     }
-    Cur::At(x)
+    Ok(x)
 }
 
 // The place after n labels from the place p on.
@@ -144,11 +120,9 @@ pub fn after_labels(s: &[u8], p: usize, n: usize) -> usize
     requires { (p < 256) × (n < 256) }
     ensures { (result ≡ place_after (after_label s.now) p n) × (result < 65792) }
 {
-    let mut i = 0;
     let mut x = p;
-    while i < n {
+    for _ in 0..n {
         x = after_label(s, x);
-        i += 1;
     }
     x
 }

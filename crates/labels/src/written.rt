@@ -16,12 +16,10 @@ pub fn barred(b: u8) -> bool
 pub fn writable(text: &[u8]) -> bool
     ensures { result ≡ writable text.now }
 {
-    let mut i = 0;
-    while i < text.len() {
-        if barred(text[i]) {
+    for &b in text {
+        if barred(b) {
             return false;
         }
-        i += 1;
     }
     true
 }

@@ -1,5 +1,5 @@
 -- What the call says of a line, by its steps as the code has them, beside a sheet that was judged.
-use Rattle.std.specs.Prelude.{ℕ, suc, ◌≤◌, ◌<◌, ◌≡◌, Bool}
+use Rattle.std.specs.Prelude.{ℕ, suc, ◌≤◌, ◌<◌, ◌≡◌, Bool, Result, Ok, Err}
 use Rattle.std.proofs.Math.Path.{refl, ap}
 use Rattle.std.proofs.Common.{sym, ◌∙◌, true≢false}
 use Rattle.std.proofs.Math.Bool.{true, false}
@@ -12,7 +12,6 @@ use Rattle.std.proofs.Math.ListN.{length}
 use Rattle.std.proofs.lemmas.List.{length-map}
 use Rattle.base.specs.Choice.{pick, pick_true, pick_false}
 use Rattle.base.specs.Lists.{every, keep}
-use Rattle.base.specs.declared.Cur.TheVariants.{At, No}
 use Rattle.meaning.specs.Numbers.{most_steps}
 use Rattle.meaning.specs.Forest.{forest, steps_of}
 use Rattle.meaning.specs.Sections.{is_near_root}
@@ -22,8 +21,6 @@ use Rattle.meaning.specs.Lines.{LineRead, off_at, draws, read_line}
 use Rattle.meaning.specs.Calls.{Writing, refuses, writes, with_room, after}
 use Rattle.meaning.specs.LineCalls.{known_drawn, numbered_step, in_order, drawn_writing, line_judged, line_then, drawn_answer, line_answer, line_output}
 use Rattle.meaning.specs.declared.Step.{Step}
-use Rattle.meaning.specs.declared.Lined.{Lined}
-use Rattle.meaning.specs.declared.Lined.TheVariants as lined
 use Rattle.laws.specs.Bridge.{forest-steps_of}
 use Rattle.laws.specs.LineForest.{drawn_forest, drawn-steps, drawn-bytes}
 use Rattle.laws.specs.LineJudged.{accepted_line}
@@ -36,6 +33,8 @@ use Rattle.reading.specs.SheetJudged.{sheet-said, sheet-refused}
 use Rattle.lines.specs.declared.steps.Found.{Found}
 use Rattle.lines.specs.Found.{count_of, StepsAre, FoundIs}
 use Rattle.meaning.specs.declared.Refusal.TheVariants.{CountOutside, SecondNear, NotALine, LabelUnknown}
+use Rattle.meaning.specs.declared.LineRefusal.{LineRefusal}
+use Rattle.meaning.specs.declared.Refusal.{Refusal}
 
 -- where there are too many, the steps don't matter
 too_many : (known a b : Bool) (xs ys : List ℕ) → in_order known false a xs ≡ in_order known false b ys
@@ -47,7 +46,7 @@ unfoldable pub pattern_said : Bool → Pattern → Writing (Unit {0})
 pattern_said known p = in_order known (leb p.count most_steps) (leb (length (keep is_near_root (steps_in p))) 1) (pattern_bytes (pattern_of p))
 
 -- of a line, with these labels
-abbrev pub LineGives : List (List ℕ) → List ℕ → List ℕ → Lined → List ℕ → Type 0
+abbrev pub LineGives : List (List ℕ) → List ℕ → List ℕ → (Result ℕ LineRefusal) → List ℕ → Type 0
 LineGives ls line out r now =
     (r ≡ line_judged (read_line line) (lined.Refused NotALine) (λ ds. drawn_answer (with_room out (drawn_writing ls ds))))
     × (now ≡ line_judged (read_line line) (λ i. out) (λ ds. after out (with_room out (drawn_writing ls ds))))
@@ -144,7 +143,7 @@ module _ (known : Bool) (p : Pattern) where
 -- ---- the line, beside a sheet that was judged
 
 module _ (ls : List (List ℕ)) (line out : List ℕ) (f : Found) (found : FoundIs ls (read_line line) f) where
-  pub line_off : f.sound ≡ false → LineGives ls line out (lined.Refused NotALine f.place) out
+  pub line_off : f.sound ≡ false → LineGives ls line out (Err (record { why = NotALine; place = f.place })) out
   unfolding line_judged
   line_off e = rw (found_off ls (read_line line) f found e) (refl, refl)
 
@@ -154,7 +153,7 @@ module _ (ls : List (List ℕ)) (line out : List ℕ) (f : Found) (found : Found
       let t = accepted_line line d.0 d.1 in
       drawn_formed d.2 t.1 t.3 h
 
-  pub line-drawn : f.sound ≡ true → (r : Lined) (now : List ℕ) → Gives drawn_answer out (pattern_said f.known f.pattern) r now
+  pub line-drawn : f.sound ≡ true → (r : Result ℕ LineRefusal) (now : List ℕ) → Gives drawn_answer out (pattern_said f.known f.pattern) r now
       → LineGives ls line out r now
   unfolding line_judged
   line-drawn e r now g =
@@ -165,11 +164,11 @@ module _ (ls : List (List ℕ)) (line out : List ℕ) (f : Found) (found : Found
 -- ---- the call, from the place where judging the sheet ended: where the sheet is sound, and where it is refused
 
 module _ (s line out : List ℕ) where
-  pub line-said : (y : ℕ) → sheet_place s ≡ At y → (r : Lined) (now : List ℕ) → LineGives (sheet_at s).labels line out r now
+  pub line-said : (y : ℕ) → sheet_place s ≡ Ok y → (r : Result ℕ LineRefusal) (now : List ℕ) → LineGives (sheet_at s).labels line out r now
       → (r ≡ line_answer out s line) × (now ≡ line_output out s line)
   unfolding line_answer line_output line_then
   line-said y h r now g = (g.0 ∙ sheet-said s _ _ y h, g.1 ∙ sheet-said s _ _ y h)
 
-  pub line_refused : (n : ℕ) → sheet_place s ≡ No n → (lined.Refused n 0 ≡ line_answer out s line) × (out ≡ line_output out s line)
+  pub line_refused : (n : Refusal) → sheet_place s ≡ Err n → (Err (record { why = n; place = 0 }) ≡ line_answer out s line) × (out ≡ line_output out s line)
   unfolding line_answer line_output line_then
   line_refused n h = (sheet-refused s _ _ n h, sheet-refused s _ _ n h)

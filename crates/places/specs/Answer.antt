@@ -1,5 +1,5 @@
 -- What a reader gives, by the place that was reached in the bytes: the value and the bytes from there on, or the fault.
-use Rattle.std.specs.Prelude.{ℕ, zero, suc, ◌+◌, ◌-◌, Bool, not, ◌&&◌, ◌||◌, List, [], ◌∷◌, length, get_or, take, drop}
+use Rattle.std.specs.Prelude.{ℕ, zero, suc, ◌+◌, ◌-◌, Bool, not, ◌&&◌, ◌||◌, List, [], ◌∷◌, length, get_or, take, drop, Ok, Err}
 use Rattle.std.proofs.Math.Path.{◌≡◌, refl}
 use Rattle.std.proofs.Math.Bool.{true, false}
 use Rattle.std.proofs.Math.Dec.{leb, ltb, leb-zero, leb-suc-zero, leb-suc-suc}
@@ -9,11 +9,10 @@ use Rattle.std.proofs.Math.Seq.{drop-drop}
 use Rattle.std.proofs.Math.Numerals.{add-one}
 use Rattle.base.specs.Choice.{pick}
 use Rattle.base.specs.Loops.{and_then}
-use Rattle.base.specs.declared.Cur.{Cur}
-use Rattle.base.specs.declared.Cur.TheVariants.{At, No}
 use Rattle.meaning.specs.Reader.{Reading, read, refused, Reader, go_on, ◌>>=◌, ◌>>◌, unless, byte, bytes, end, give, repeat, number_of}
-use Rattle.places.specs.Bytes.{number_at}
+use Rattle.places.specs.Bytes.{number_at, Place}
 use Rattle.meaning.specs.declared.Refusal.TheVariants.{BytesRemain, EndsEarly}
+use Rattle.meaning.specs.declared.Refusal.{Refusal}
 
 -- ---- choices
 
@@ -37,25 +36,25 @@ module _ {ℓ} {A : Type ℓ} where
   pick-either false b x y = refl
 
 -- a place was reached: no test on the way refused
-pub passed : (b : Bool) (x : Cur) (n y : ℕ) → pick b x (No n) ≡ At y → (b ≡ true) × (x ≡ At y)
+pub passed : (b : Bool) (x : Place) (n : Refusal) (y : ℕ) → pick b x (Err n) ≡ Ok y → (b ≡ true) × (x ≡ Ok y)
 unfolding pick
 passed true x n y h = (refl, h)
 passed false x n y h = let z : ◌≡◌ {A = ℕ} 0 1 = cc in absurd (omega arith)
 
 -- the same, where the test refuses if it holds
-pub passed_not : (b : Bool) (x : Cur) (n y : ℕ) → pick b (No n) x ≡ At y → (b ≡ false) × (x ≡ At y)
+pub passed_not : (b : Bool) (x : Place) (n : Refusal) (y : ℕ) → pick b (Err n) x ≡ Ok y → (b ≡ false) × (x ≡ Ok y)
 unfolding pick
 passed_not true x n y h = let z : ◌≡◌ {A = ℕ} 0 1 = cc in absurd (omega arith)
 passed_not false x n y h = (refl, h)
 
 -- a place was reached after another
-pub passed_on : (c : Cur) (f : ℕ → Cur) (y : ℕ) → and_then c f ≡ At y → (x : ℕ) × (c ≡ At x) × (f x ≡ At y)
+pub passed_on : (c : Place) (f : ℕ → Place) (y : ℕ) → and_then c f ≡ Ok y → (x : ℕ) × (c ≡ Ok x) × (f x ≡ Ok y)
 unfolding and_then
-passed_on (At x) f y h = (x, refl, h)
-passed_on (No n) f y h = let z : ◌≡◌ {A = ℕ} 0 1 = cc in absurd (omega arith)
+passed_on (Ok x) f y h = (x, refl, h)
+passed_on (Err n) f y h = let z : ◌≡◌ {A = ℕ} 0 1 = cc in absurd (omega arith)
 
 -- going on after a choice is a choice of goings-on
-pub and_then-pick : (b : Bool) (x y : Cur) (f : ℕ → Cur) → and_then (pick b x y) f ≡ pick b (and_then x f) (and_then y f)
+pub and_then-pick : (b : Bool) (x y : Place) (f : ℕ → Place) → and_then (pick b x y) f ≡ pick b (and_then x f) (and_then y f)
 unfolding pick
 and_then-pick true x y f = refl
 and_then-pick false x y f = refl
@@ -68,41 +67,41 @@ two x = omega arith
 
 module _ {A : Type 0} where
   -- the value with the bytes from the place on, or the fault
-  unfoldable pub answer : List ℕ → A → Cur → Reading A
-  answer s a (At p) = read a (drop p s)
-  answer s a (No n) = refused n
+  unfoldable pub answer : List ℕ → A → Place → Reading A
+  answer s a (Ok p) = read a (drop p s)
+  answer s a (Err n) = refused n
 
   -- the answer of a choice is a choice of answers
-  pub answer-pick : (s : List ℕ) (a : A) (b : Bool) (x y : Cur) → answer s a (pick b x y) ≡ pick b (answer s a x) (answer s a y)
+  pub answer-pick : (s : List ℕ) (a : A) (b : Bool) (x y : Place) → answer s a (pick b x y) ≡ pick b (answer s a x) (answer s a y)
   unfolding pick
   answer-pick s a true x y = refl
   answer-pick s a false x y = refl
 
   -- the value that was read
-  pub answer-value : (s : List ℕ) (a : A) (c : Cur) (b : A) (left : List ℕ) → answer s a c ≡ read b left → b ≡ a
+  pub answer-value : (s : List ℕ) (a : A) (c : Place) (b : A) (left : List ℕ) → answer s a c ≡ read b left → b ≡ a
   unfolding answer
-  answer-value s a (At p) b left h = cc
-  answer-value s a (No n) b left h = let z : ◌≡◌ {A = ℕ} 0 1 = cc in absurd (omega arith)
+  answer-value s a (Ok p) b left h = cc
+  answer-value s a (Err n) b left h = let z : ◌≡◌ {A = ℕ} 0 1 = cc in absurd (omega arith)
 
   -- and the place that was reached
-  pub answer-place : (s : List ℕ) (a : A) (c : Cur) (b : A) (left : List ℕ) → answer s a c ≡ read b left → (p : ℕ) × (c ≡ At p)
+  pub answer-place : (s : List ℕ) (a : A) (c : Place) (b : A) (left : List ℕ) → answer s a c ≡ read b left → (p : ℕ) × (c ≡ Ok p)
   unfolding answer
-  answer-place s a (At p) b left h = (p, refl)
-  answer-place s a (No n) b left h = let z : ◌≡◌ {A = ℕ} 0 1 = cc in absurd (omega arith)
+  answer-place s a (Ok p) b left h = (p, refl)
+  answer-place s a (Err n) b left h = let z : ◌≡◌ {A = ℕ} 0 1 = cc in absurd (omega arith)
 
   -- the number of a reading is that of its place
-  pub number_of-answer : (s : List ℕ) (a : A) (c : Cur) → number_of (answer s a c) ≡ number_at c
+  pub number_of-answer : (s : List ℕ) (a : A) (c : Place) → number_of (answer s a c) ≡ number_at c
   unfolding answer number_of number_at
-  number_of-answer s a (At p) = refl
-  number_of-answer s a (No n) = refl
+  number_of-answer s a (Ok p) = refl
+  number_of-answer s a (Err n) = refl
 
 module _ {A B : Type 0} where
   -- read on from the place that was reached
-  pub then_answer : (s : List ℕ) (a : A) (b : B) (c : Cur) (next : A → Reader B) (f : ℕ → Cur)
-      → ((p : ℕ) → c ≡ At p → next a (drop p s) ≡ answer s b (f p)) → go_on (answer s a c) next ≡ answer s b (and_then c f)
+  pub then_answer : (s : List ℕ) (a : A) (b : B) (c : Place) (next : A → Reader B) (f : ℕ → Place)
+      → ((p : ℕ) → c ≡ Ok p → next a (drop p s) ≡ answer s b (f p)) → go_on (answer s a c) next ≡ answer s b (and_then c f)
   unfolding answer go_on and_then
-  then_answer s a b (At p) next f h = h p refl
-  then_answer s a b (No n) next f h = refl
+  then_answer s a b (Ok p) next f h = h p refl
+  then_answer s a b (Err n) next f h = refl
 
 -- n bytes of a list are its first n, where there are so many
 pub bytes_at : (n : ℕ) (l : List ℕ) → bytes n l ≡ pick (leb n (length l)) (read (take n l) (drop n l)) (refused EndsEarly)
@@ -124,10 +123,10 @@ module _ {A B : Type 0} where
   go_on-pick false x y next = refl
 
   -- the value is changed, and nothing is read
-  pub then_give : (s : List ℕ) (a : A) (c : Cur) (f : A → B) → go_on (answer s a c) (λ x. give (f x)) ≡ answer s (f a) c
+  pub then_give : (s : List ℕ) (a : A) (c : Place) (f : A → B) → go_on (answer s a c) (λ x. give (f x)) ≡ answer s (f a) c
   unfolding answer go_on give
-  then_give s a (At p) f = refl
-  then_give s a (No n) f = refl
+  then_give s a (Ok p) f = refl
+  then_give s a (Err n) f = refl
 
 module _ {B : Type 0} (s : List ℕ) where
   -- a byte, where there is one
@@ -141,7 +140,7 @@ module _ {B : Type 0} (s : List ℕ) where
       go false e = rw (drop_of_length-le s (ltb-false at (length s) e))
 
   -- a test, and the fault where it fails
-  pub then_unless : (n : ℕ) (b : Bool) (l : List ℕ) (next : Reader B) → ◌>>◌ (unless n b) next l ≡ pick b (next l) (refused n)
+  pub then_unless : (n : Refusal) (b : Bool) (l : List ℕ) (next : Reader B) → ◌>>◌ (unless n b) next l ≡ pick b (next l) (refused n)
   unfolding ◌>>◌ unless go_on pick
   then_unless n true l next = refl
   then_unless n false l next = refl

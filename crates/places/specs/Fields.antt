@@ -1,34 +1,33 @@
 -- The fields of a section, in the order of its reader: each is one line more of the section, and what stands there, how it is
 -- judged and that this is how it is read come of it.
-use Rattle.std.specs.Prelude.{ℕ, ◌+◌, ◌-◌, ◌≤◌, ◌≡◌, Bool, true, not, ◌&&◌, ◌||◌, List, leb, ltb, length, get_or, take, drop}
+use Rattle.std.specs.Prelude.{ℕ, ◌+◌, ◌-◌, ◌≤◌, ◌≡◌, Bool, true, not, ◌&&◌, ◌||◌, List, leb, ltb, length, get_or, take, drop, Ok, Err}
 use Rattle.std.proofs.Math.Path.{refl, ap}
 use Rattle.std.proofs.Common.{◌∙◌, arith, ltb-true, leb-true}
 use Rattle.base.specs.Choice.{pick}
 use Rattle.base.specs.Loops.{and_then}
-use Rattle.base.specs.declared.Cur.{Cur}
-use Rattle.base.specs.declared.Cur.TheVariants.{At, No}
 use Rattle.meaning.specs.Reader.{refused, Reader, ◌>>=◌, ◌>>◌, unless, byte, bytes, end, give, number}
-use Rattle.places.specs.Bytes.{pair_at, end_place}
+use Rattle.places.specs.Bytes.{pair_at, end_place, Place}
 use Rattle.places.specs.Answer.{answer, answer-pick, then_answer, then_give, then_byte, then_unless, then_bytes, then_end}
 use Rattle.places.specs.Answer.{passed, passed_on, pick_both, pick-either, pick_not}
 use Rattle.places.specs.NumberRead.{number_in, then_number, then_pair}
 use Rattle.places.specs.Section.{Section, judged_as}
 use Rattle.meaning.specs.declared.Refusal.TheVariants.{EndsEarly, BytesRemain}
+use Rattle.meaning.specs.declared.Refusal.{Refusal}
 
 -- ---- one field, and what follows it
 
 module _ {A : Type 0} (s : List ℕ) where
-  pub guard_reads : (a : A) (b : Bool) (n : ℕ) (c : Cur) → pick b (answer s a c) (refused n) ≡ answer s a (pick b c (No n))
+  pub guard_reads : (a : A) (b : Bool) (n : Refusal) (c : Place) → pick b (answer s a c) (refused n) ≡ answer s a (pick b c (Err n))
   unfolding answer
-  guard_reads a b n c = rw (answer-pick s a b c (No n))
+  guard_reads a b n c = rw (answer-pick s a b c (Err n))
 
-  pub given-reads : (a : A) (x : ℕ) → give a (drop x s) ≡ answer s a (At x)
+  pub given-reads : (a : A) (x : ℕ) → give a (drop x s) ≡ answer s a (Ok x)
   unfolding give answer
   given-reads a x = refl
 
 -- within the bytes
 module _ (s : List ℕ) (x : ℕ) where
-  pub end-judged : pick (leb (length s) x) (At x) (No BytesRemain) ≡ end_place s x
+  pub end-judged : pick (leb (length s) x) (Ok x) (Err BytesRemain) ≡ end_place s x
   unfolding end_place
   end-judged = refl
 
@@ -41,17 +40,17 @@ module _ (s : List ℕ) (x : ℕ) where
   pub inside_more : (n : ℕ) → leb n (length s - x) ≡ true → x ≤ length s → x + n ≤ length s
   inside_more n e h = omega (arith, leb-true n (length s - x) e)
 
-pub same_place : (x y : ℕ) → At x ≡ At y → y ≡ x
+pub same_place : (x y : ℕ) → ◌≡◌ {A = Place} (Ok x) (Ok y) → y ≡ x
 same_place x y e = cc
 
 module _ {A : Type 0} {s : List ℕ} where
   -- a test before a section: the fault n where it fails
-  abbrev pub guarded : {r next : Reader A} {x z : ℕ} (b : Bool) (n : ℕ) (k : Section s next z)
+  abbrev pub guarded : {r next : Reader A} {x z : ℕ} (b : Bool) (n : Refusal) (k : Section s next z)
       → r (drop x s) ≡ pick b (next (drop z s)) (refused n) → (b ≡ true → x ≤ length s → z ≤ length s) → Section s r x
   guarded b n k e inside = record {
     value = k.value;
     after = k.after;
-    place = pick b k.place (No n);
+    place = pick b k.place (Err n);
     reads = e ∙ ap (λ m. pick b m (refused n)) k.reads ∙ guard_reads s k.value b n k.place;
     leads = λ y h. k.leads y (passed b k.place n y h).1;
     within = λ y l h. k.within y (inside (passed b k.place n y h).0 l) (passed b k.place n y h).1;
@@ -63,7 +62,7 @@ module _ {A : Type 0} {s : List ℕ} {x : ℕ} where
   given a = record {
     value = a;
     after = x;
-    place = At x;
+    place = Ok x;
     reads = given-reads s a x;
     leads = same_place x;
     within = λ y h e. rw (same_place x y e) h;
@@ -94,26 +93,26 @@ module _ {A : Type 0} {s : List ℕ} {x : ℕ} where
       (then_pair s x next) (λ e h. h)
 
   -- a test
-  abbrev pub unless_then : (n : ℕ) (b : Bool) {next : Reader A} → Section s next x → Section s (◌>>◌ (unless n b) next) x
+  abbrev pub unless_then : (n : Refusal) (b : Bool) {next : Reader A} → Section s next x → Section s (◌>>◌ (unless n b) next) x
   unless_then n b {next = next} k = guarded b n k (then_unless s n b (drop x s) next) (λ e h. h)
 
   -- a test in other words
-  abbrev pub unless_as : (n : ℕ) {c : Bool} (b : Bool) → c ≡ b → {next : Reader A} → Section s next x → Section s (◌>>◌ (unless n c) next) x
-  unless_as n {c = c} b e k = judged_as (pick b k.place (No n)) (unless_then n c k) (ap (λ (t : Bool). pick t k.place (No n)) e)
+  abbrev pub unless_as : (n : Refusal) {c : Bool} (b : Bool) → c ≡ b → {next : Reader A} → Section s next x → Section s (◌>>◌ (unless n c) next) x
+  unless_as n {c = c} b e k = judged_as (pick b k.place (Err n)) (unless_then n c k) (ap (λ (t : Bool). pick t k.place (Err n)) e)
 
   -- a test of two parts, one after the other
-  abbrev pub unless_both : (n : ℕ) (a b : Bool) {next : Reader A} → Section s next x → Section s (◌>>◌ (unless n (a && b)) next) x
-  unless_both n a b k = judged_as (pick a (pick b k.place (No n)) (No n)) (unless_then n (a && b) k) (pick_both a b k.place (No n))
+  abbrev pub unless_both : (n : Refusal) (a b : Bool) {next : Reader A} → Section s next x → Section s (◌>>◌ (unless n (a && b)) next) x
+  unless_both n a b k = judged_as (pick a (pick b k.place (Err n)) (Err n)) (unless_then n (a && b) k) (pick_both a b k.place (Err n))
 
   -- a test that must fail
-  abbrev pub unless_not : (n : ℕ) (b : Bool) {next : Reader A} → Section s next x → Section s (◌>>◌ (unless n (not b)) next) x
-  unless_not n b k = judged_as (pick b (No n) k.place) (unless_then n (not b) k) (pick_not b k.place (No n))
+  abbrev pub unless_not : (n : Refusal) (b : Bool) {next : Reader A} → Section s next x → Section s (◌>>◌ (unless n (not b)) next) x
+  unless_not n b k = judged_as (pick b (Err n) k.place) (unless_then n (not b) k) (pick_not b k.place (Err n))
 
   -- two tests that must fail, one after the other
-  abbrev pub unless_either : (n : ℕ) {c : Bool} (a b : Bool) → c ≡ (a || b) → {next : Reader A} → Section s next x
+  abbrev pub unless_either : (n : Refusal) {c : Bool} (a b : Bool) → c ≡ (a || b) → {next : Reader A} → Section s next x
       → Section s (◌>>◌ (unless n (not c)) next) x
   unless_either n {c = c} a b e k =
-      judged_as (pick a (No n) (pick b (No n) k.place)) (unless_not n c k) (rw e (pick-either a b (No n) k.place))
+      judged_as (pick a (Err n) (pick b (Err n) k.place)) (unless_not n c k) (rw e (pick-either a b (Err n) k.place))
 
 -- ---- a section, and what follows it
 
@@ -130,12 +129,12 @@ module _ {A B : Type 0} {s : List ℕ} {x : ℕ} {r : Reader A} (k : Section s r
         on : (y : ℕ) → y ≡ k.after → next k.value (drop y s) ≡ answer s (f k.after).value (f y).place
         on y e = (f y).reads ∙ ap (λ (z : ℕ). answer s (f z).value (f y).place) e
 
-    pub next-leads : (y : ℕ) → and_then k.place (λ z. (f z).place) ≡ At y → y ≡ (f k.after).after
+    pub next-leads : (y : ℕ) → and_then k.place (λ z. (f z).place) ≡ Ok y → y ≡ (f k.after).after
     next-leads y h =
         let p = passed_on k.place (λ z. (f z).place) y h in
         (f p.0).leads y p.2 ∙ ap (λ (w : ℕ). (f w).after) (k.leads p.0 p.1)
 
-    pub next-within : (y : ℕ) → x ≤ length s → and_then k.place (λ z. (f z).place) ≡ At y → y ≤ length s
+    pub next-within : (y : ℕ) → x ≤ length s → and_then k.place (λ z. (f z).place) ≡ Ok y → y ≤ length s
     next-within y l h =
         let p = passed_on k.place (λ z. (f z).place) y h in
         (f p.0).within y (k.within p.0 l p.1) p.2

@@ -1,15 +1,14 @@
 -- Things that are read one after the other: a section of n of them.
 use Prim.Native.Nat.{ℕ, zero, suc, ◌+◌, ◌≤◌}
-use Rattle.std.specs.Prelude.{◌≡◌, List, [], ◌∷◌, length, drop}
+use Rattle.std.specs.Prelude.{◌≡◌, List, [], ◌∷◌, length, drop, Ok}
 use Rattle.std.proofs.Math.Path.{refl, ap}
 use Rattle.std.proofs.Common.{◌∙◌}
 use Rattle.base.specs.Loops.{run}
 use Rattle.base.specs.Standing.{standing, place_after, run-leads, run_keeps}
-use Rattle.base.specs.declared.Cur.{Cur}
-use Rattle.base.specs.declared.Cur.TheVariants.{At}
 use Rattle.meaning.specs.Reader.{Reader, go_on, ◌>>=◌, give, repeat}
 use Rattle.places.specs.Answer.{answer, then_answer, then_give}
 use Rattle.places.specs.Section.{Section}
+use Rattle.places.specs.Bytes.{Place}
 
 -- ---- one after the other, each judged beside what is told of those before it
 
@@ -17,11 +16,11 @@ use Rattle.places.specs.Section.{Section}
 module _ {A S : Type 0} (s : List ℕ) (many : ℕ → S → Reader (List A)) (one : S → Reader A) (keep : S → A → S)
     (none : (t : S) → many 0 t ≡ give [])
     (more : (n : ℕ) (t : S) → many (suc n) t ≡ ◌>>=◌ (one t) (λ a. ◌>>=◌ (many n (keep t a)) (λ later. give (a ∷ later))))
-    (here : ℕ → A) (next : ℕ → ℕ) (f : ℕ → ℕ → Cur) (Told : ℕ → ℕ → S → Type 0)
+    (here : ℕ → A) (next : ℕ → ℕ) (f : ℕ → ℕ → Place) (Told : ℕ → ℕ → S → Type 0)
     (reads : (i x : ℕ) (t : S) → Told i x t → one t (drop x s) ≡ answer s (here x) (f i x))
-    (leads : (i x y : ℕ) → f i x ≡ At y → y ≡ next x)
-    (inside : (i x y : ℕ) → x ≤ length s → f i x ≡ At y → y ≤ length s)
-    (told : (i x y : ℕ) (t : S) → Told i x t → f i x ≡ At y → Told (i + 1) y (keep t (here x))) where
+    (leads : (i x y : ℕ) → f i x ≡ Ok y → y ≡ next x)
+    (inside : (i x y : ℕ) → x ≤ length s → f i x ≡ Ok y → y ≤ length s)
+    (told : (i x y : ℕ) (t : S) → Told i x t → f i x ≡ Ok y → Told (i + 1) y (keep t (here x))) where
   pub in_turn_lem : (n i x : ℕ) (t : S) → Told i x t → many n t (drop x s) ≡ answer s (standing here next x n) (run f n i x)
   unfolding standing run ◌>>=◌ give answer
   in_turn_lem zero i x t h = ap (λ (r : Reader (List A)). r (drop x s)) (none t)
@@ -60,7 +59,7 @@ module _ {A : Type 0} (r : Reader A) where
 
 module _ {A : Type 0} {s : List ℕ} {r : Reader A} (k : (x : ℕ) → Section s r x) where
   -- the i-th is judged like any other
-  abbrev pub each_place : ℕ → ℕ → Cur
+  abbrev pub each_place : ℕ → ℕ → Place
   each_place i x = (k x).place
 
   -- n of them

@@ -1,11 +1,9 @@
 -- A section of bytes: a reader at a place, what stands there, and how it is judged by places.
-use Rattle.std.specs.Prelude.{ℕ, ◌≤◌, ◌≡◌, List, length, drop}
+use Rattle.std.specs.Prelude.{ℕ, ◌≤◌, ◌≡◌, List, length, drop, Ok}
 use Rattle.std.proofs.Common.{sym, ◌∙◌}
 use Rattle.std.proofs.Math.Path.{ap}
-use Rattle.base.specs.declared.Cur.{Cur}
-use Rattle.base.specs.declared.Cur.TheVariants.{At}
 use Rattle.meaning.specs.Reader.{read, Reader, number_of}
-use Rattle.places.specs.Bytes.{number_at}
+use Rattle.places.specs.Bytes.{number_at, Place}
 use Rattle.places.specs.Answer.{answer, answer-value, answer-place, number_of-answer}
 
 -- the reader r at the place x of s
@@ -14,23 +12,23 @@ pub record Section {A : Type 0} (s : List ℕ) (r : Reader A) (x : ℕ) : Type 0
   pub value : A
   pub after : ℕ
   -- the place that judging reaches, or the number of the first fault
-  pub place : Cur
+  pub place : Place
   -- so it is read
   pub reads : r (drop x s) ≡ answer s value place
   -- and the place that is reached is the one after it, within the bytes
-  pub leads : (y : ℕ) → place ≡ At y → y ≡ after
-  pub within : (y : ℕ) → x ≤ length s → place ≡ At y → y ≤ length s
+  pub leads : (y : ℕ) → place ≡ Ok y → y ≡ after
+  pub within : (y : ℕ) → x ≤ length s → place ≡ Ok y → y ≤ length s
 
 -- ---- what it tells
 
 module _ {A : Type 0} {s : List ℕ} {r : Reader A} {x : ℕ} (k : Section s r x) where
   -- where a place was reached, the value was read
-  pub section-read : (y : ℕ) → k.place ≡ At y → r (drop x s) ≡ read k.value (drop y s)
+  pub section-read : (y : ℕ) → k.place ≡ Ok y → r (drop x s) ≡ read k.value (drop y s)
   unfolding answer
   section-read y h = k.reads ∙ ap (answer s k.value) h
 
   -- what was read is the value, and a place was reached
-  pub section_is : (a : A) (left : List ℕ) → r (drop x s) ≡ read a left → (a ≡ k.value) × ((y : ℕ) × (k.place ≡ At y))
+  pub section_is : (a : A) (left : List ℕ) → r (drop x s) ≡ read a left → (a ≡ k.value) × ((y : ℕ) × (k.place ≡ Ok y))
   section_is a left h =
       let e = sym k.reads ∙ h in
       (answer-value s _ k.place a left e, answer-place s k.value _ a left e)
@@ -43,7 +41,7 @@ module _ {A : Type 0} {s : List ℕ} {r : Reader A} {x : ℕ} (k : Section s r x
 
 module _ {A : Type 0} {s : List ℕ} where
   -- as it is judged
-  abbrev pub judged_as : {r : Reader A} {x : ℕ} (c : Cur) (k : Section s r x) → k.place ≡ c → Section s r x
+  abbrev pub judged_as : {r : Reader A} {x : ℕ} (c : Place) (k : Section s r x) → k.place ≡ c → Section s r x
   judged_as c k e = record {
     value = k.value;
     after = k.after;

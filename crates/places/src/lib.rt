@@ -5,17 +5,13 @@ ghost use Rattle.std.specs.Prelude.{◌≡◌, ◌<◌, leb, get_or};
 ghost use Rattle.base.specs.Choice.{pick};
 ghost use Rattle.places.specs.Bytes.{pair_at, end_place};
 
-use base::Cur;
-use meaning::BYTES_REMAIN;
+use meaning::Refusal;
 
 // The byte at a place, 0 past the end.
 pub fn byte_at(s: &[u8], i: usize) -> usize
     ensures { (result ≡ get_or s.now i 0) × (result < 256) }
 {
-    if i < s.len() {
-        return s[i] as usize;
-    }
-    0
+    if i < s.len() { s[i] as usize } else { 0 }
 }
 
 // The number of two bytes at x, the low one first.
@@ -32,18 +28,15 @@ pub fn pair_at(s: &[u8], x: usize) -> usize
 pub fn within(n: usize, most: usize) -> usize
     ensures { result ≡ pick (leb n most) n 0 }
 {
-    if n <= most {
-        return n;
-    }
-    0
+    if n <= most { n } else { 0 }
 }
 
 // No byte remains.
-pub fn end(s: &[u8], x: usize) -> Cur
+pub fn end(s: &[u8], x: usize) -> Result<usize, Refusal>
     ensures { result ≡ end_place s.now x }
 {
     if x < s.len() {
-        return Cur::No(BYTES_REMAIN);
+        return Err(Refusal::BytesRemain);
     }
-    Cur::At(x)
+    Ok(x)
 }

@@ -1,8 +1,6 @@
 -- What is printed for two bytes of limit and a sheet, by the place where judging the sheet ended: the text of the table that is built, or of the refusal.
-use Rattle.std.specs.Prelude.{ℕ, ◌+◌, ◌-◌, ◌*◌, ◌≤◌, ◌<◌, ◌≡◌, refl, List, [], ◌∷◌, length, take, drop}
+use Rattle.std.specs.Prelude.{ℕ, ◌+◌, ◌-◌, ◌*◌, ◌≤◌, ◌<◌, ◌≡◌, refl, List, [], ◌∷◌, length, take, drop, Ok, Err}
 use Rattle.std.proofs.Common.{sym, ap, ◌∙◌, arith, length-drop, take_all}
-use Rattle.base.specs.declared.Cur.{Cur}
-use Rattle.base.specs.declared.Cur.TheVariants.{At, No}
 use Rattle.meaning.specs.Reader.{Reading, read, refused, go_on, ◌>>=◌, give, byte, number}
 use Rattle.meaning.specs.Sections.{Sheet, sheet}
 use Rattle.meaning.specs.Building.{build, entries_from}
@@ -12,7 +10,7 @@ use Rattle.meaning.specs.Printing.{table_text, refused_text, Asking, asking, pri
 use Rattle.shapes.specs.Shapes.{table_of}
 use Rattle.shapes.specs.declared.Table.{Table}
 use Rattle.reading.specs.SheetPlaces.{sheet_at}
-use Rattle.places.specs.Bytes.{pair_at}
+use Rattle.places.specs.Bytes.{pair_at, Place}
 use Rattle.reading.specs.SheetSection.{sheet_place}
 use Rattle.reading.specs.SheetJudged.{sheet-judged, SheetStands, sheet-stands}
 use Rattle.places.specs.Reached.{reached}
@@ -20,6 +18,7 @@ use Rattle.building.specs.Counting.{build_from, build_from_lem}
 use Rattle.texts.specs.PutText.{Written, put}
 use Rattle.labels.specs.LabelPlaces.{labels_in}
 use Rattle.printing.specs.TableTexts.{built_table, text_of, text_of_lem}
+use Rattle.meaning.specs.declared.Refusal.{Refusal}
 
 -- the text of a table that was built from one entry for each subscription is that of the build
 pub text-built : (s : List ℕ) (count limit rounds : ℕ) (t first : Table) → count ≡ length (sheet_at s).patterns
@@ -41,7 +40,7 @@ printed-short (a ∷ []) h = refl
 printed-short (a ∷ b ∷ rest) h = absurd (omega arith)
 
 -- a value that is only put together changes no refusal
-judged-made : {A B C : Type 0} (r : Reading A) (f : A → B) (refuse : ℕ → C) (next : B → C)
+judged-made : {A B C : Type 0} (r : Reading A) (f : A → B) (refuse : Refusal → C) (next : B → C)
     → judged (go_on r (λ a. give (f a))) refuse next ≡ judged r refuse (λ a. next (f a))
 unfolding judged go_on give
 judged-made (read a left) f refuse next = refl
@@ -75,23 +74,23 @@ part_is s = take_all (length s - 2) (drop 2 s) (omega (arith, length-drop 2 s))
 pub put-short : (s : List ℕ) (w out : Written) → w ≡ put out (refused_text 1) → length s < 2 → w ≡ put out (printed s)
 put-short s w out e h = e ∙ ap (put out) (sym (printed-short s h))
 
-pub put_no : (s : List ℕ) (w out : Written) (c : Cur) (m : ℕ) → 2 ≤ length s → c ≡ sheet_place (take (length s - 2) (drop 2 s)) → c ≡ No m
+pub put_no : (s : List ℕ) (w out : Written) (c : Place) (m : Refusal) → 2 ≤ length s → c ≡ sheet_place (take (length s - 2) (drop 2 s)) → c ≡ Err m
     → w ≡ put out (refused_text m) → w ≡ put out (printed s)
 unfolding reached
 put_no s w out c m h e n p =
-    let at : sheet_place (drop 2 s) ≡ No m = ap sheet_place (sym (part_is s)) ∙ sym e ∙ n in
+    let at : sheet_place (drop 2 s) ≡ Err m = ap sheet_place (sym (part_is s)) ∙ sym e ∙ n in
     p ∙ ap (put out) (sym (printed-sheet s h ∙ rw at))
 
-pub put_yes : (s : List ℕ) (w out : Written) (c : Cur) (x limit : ℕ) → 2 ≤ length s → c ≡ sheet_place (take (length s - 2) (drop 2 s))
-    → c ≡ At x → limit ≡ pair_at s 0
+pub put_yes : (s : List ℕ) (w out : Written) (c : Place) (x limit : ℕ) → 2 ≤ length s → c ≡ sheet_place (take (length s - 2) (drop 2 s))
+    → c ≡ Ok x → limit ≡ pair_at s 0
     → w
     ≡ put out (table_text (sheet_at (take (length s - 2) (drop 2 s))) (build limit (sheet_at (take (length s - 2) (drop 2 s))).patterns))
     → w ≡ put out (printed s)
 unfolding reached
 put_yes s w out c x limit h e n l p =
-    let at : sheet_place (drop 2 s) ≡ At x = ap sheet_place (sym (part_is s)) ∙ sym e ∙ n in
+    let at : sheet_place (drop 2 s) ≡ Ok x = ap sheet_place (sym (part_is s)) ∙ sym e ∙ n in
     let q = rw (part_is s, l) at p in
     q ∙ ap (put out) (sym (printed-sheet s h ∙ rw at))
 
-pub part_stands : (p : List ℕ) (c : Cur) (x : ℕ) → c ≡ sheet_place p → c ≡ At x → SheetStands p
+pub part_stands : (p : List ℕ) (c : Place) (x : ℕ) → c ≡ sheet_place p → c ≡ Ok x → SheetStands p
 part_stands p c x e n = sheet-stands p x (sym e ∙ n)

@@ -1,12 +1,10 @@
 -- Patterns and sheets: how they are judged by places in their bytes, and that this is how the paper reads them.
-use Rattle.std.specs.Prelude.{ℕ, ◌+◌, ◌≡◌, true, List, leb, ltb, length, get_or}
+use Rattle.std.specs.Prelude.{ℕ, ◌+◌, ◌≡◌, true, List, leb, ltb, length, get_or, Ok, Err}
 use Rattle.std.proofs.Math.Path.{refl}
 use Rattle.std.proofs.Common.{sym, ap}
 use Rattle.base.specs.Choice.{pick}
 use Rattle.base.specs.Standing.{standing}
 use Rattle.base.specs.Loops.{and_then, run}
-use Rattle.base.specs.declared.Cur.{Cur}
-use Rattle.base.specs.declared.Cur.TheVariants.{At, No}
 use Rattle.meaning.specs.Numbers.{most_steps, most_patterns}
 use Rattle.meaning.specs.Reader.{read, ◌>>=◌, ◌>>◌, give, unless, byte, repeat, end}
 use Rattle.meaning.specs.Forest.{Forest, forest}
@@ -16,7 +14,7 @@ use Rattle.labels.specs.LabelPlaces.{texts_at, labels_in}
 use Rattle.labels.specs.LabelSection.{labels_place, labels_section, length-texts}
 use Rattle.reading.specs.SheetPlaces.{pattern_count_at, sheet_at, forest_at, after_pattern, forests_at}
 use Rattle.reading.specs.StepSection.{steps_section}
-use Rattle.places.specs.Bytes.{end_place, number_at}
+use Rattle.places.specs.Bytes.{end_place, number_at, Place}
 use Rattle.places.specs.Answer.{and_then-pick, passed, passed_on}
 use Rattle.places.specs.Section.{Section, judged_as, read_as, stands_as, section_is, section-number}
 use Rattle.places.specs.Fields.{byte_then, unless_then, then_given, section_then, end_then}
@@ -36,15 +34,15 @@ module _ (s : List ℕ) (known : ℕ) where
       then_given forest (steps_section s known (x + 1) n)))
       refl refl
 
-  abbrev pub pattern_place : ℕ → Cur
+  abbrev pub pattern_place : ℕ → Place
   pattern_place x = (pattern_section x).place
 
   -- the patterns of a sheet from their count at x on
-  unfoldable pub patterns_place : ℕ → Cur
+  unfoldable pub patterns_place : ℕ → Place
   patterns_place x =
       pick (ltb x (length s))
-      (pick (leb (get_or s x 0) most_patterns) (run (each_place pattern_section) (get_or s x 0) 0 (x + 1)) (No CountOutside))
-      (No EndsEarly)
+      (pick (leb (get_or s x 0) most_patterns) (run (each_place pattern_section) (get_or s x 0) 0 (x + 1)) (Err CountOutside))
+      (Err EndsEarly)
 
 -- ---- a sheet
 
@@ -76,7 +74,7 @@ sheet_section s =
     refl refl
 
 -- where a sheet ends, or the number of its first fault
-abbrev pub sheet_place : List ℕ → Cur
+abbrev pub sheet_place : List ℕ → Place
 sheet_place s = (sheet_section s).place
 
 -- the number of a sheet
@@ -88,20 +86,20 @@ sheet_number_lem s = sym (section-number (sheet_section s))
 pub record PatternsStand (s : List ℕ) : Type 0 where
   pub few : leb (get_or s (pattern_count_at s) 0) most_patterns ≡ true
   pub final : ℕ
-  pub all_read : run (each_place (pattern_section s (get_or s 0 0))) (get_or s (pattern_count_at s) 0) 0 (pattern_count_at s + 1) ≡ At final
+  pub all_read : run (each_place (pattern_section s (get_or s 0 0))) (get_or s (pattern_count_at s) 0) 0 (pattern_count_at s + 1) ≡ Ok final
 
 -- so it is of every sheet that was read
 pub patterns-stand : (s : List ℕ) (sh : Sheet) (left : List ℕ) → sheet s ≡ read sh left → PatternsStand s
 unfolding sheet_section patterns_to_end labels_section patterns_place pattern_count_at
 patterns-stand s sh left h =
     let c = (section_is (sheet_section s) sh left h).1 in
-    let a = passed (ltb 0 (length s)) _ 1 c.0 c.1 in
+    let a = passed (ltb 0 (length s)) _ EndsEarly c.0 c.1 in
     let b = passed_on (labels_place s 0 s 1 (get_or s 0 0)) _ c.0 a.1 in
     let e = passed_on (patterns_place s (get_or s 0 0) b.0) _ c.0 b.2 in
     section b.0 e.0 ((labels_section s 0 s 1 (get_or s 0 0)).leads b.0 b.1) e.1
   where
-    section : (x y : ℕ) → x ≡ pattern_count_at s → patterns_place s (get_or s 0 0) x ≡ At y → PatternsStand s
+    section : (x y : ℕ) → x ≡ pattern_count_at s → patterns_place s (get_or s 0 0) x ≡ Ok y → PatternsStand s
     section x y there h =
-        let f = passed (ltb x (length s)) _ 1 y h in
+        let f = passed (ltb x (length s)) _ EndsEarly y h in
         let g = passed (leb (get_or s x 0) most_patterns) _ CountOutside y f.1 in
         record { few = rw there at g.0; final = y; all_read = rw there at g.1 }

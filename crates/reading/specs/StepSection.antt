@@ -1,7 +1,7 @@
 -- The steps of a pattern: how they are judged by places in their bytes, and that this is how the paper reads them. Going up
 -- from the step just before meets a number exactly if that number is on the path upwards.
 use Prim.Native.Nat.{ℕ, zero, suc, ◌+◌, ◌*◌, ◌-◌, ◌≤◌, ◌<◌}
-use Rattle.std.specs.Prelude.{◌≡◌, Bool, ◌&&◌, ◌||◌, leb, ltb, get_or, drop}
+use Rattle.std.specs.Prelude.{◌≡◌, Bool, ◌&&◌, ◌||◌, leb, ltb, get_or, drop, Ok, Err}
 use Rattle.std.proofs.Math.Path.{refl, sym, subst}
 use Rattle.std.proofs.Common.{ap, ◌∙◌}
 use Rattle.std.proofs.Math.Bool.{true, false}
@@ -16,8 +16,6 @@ use Rattle.base.specs.Bools.{both_ways}
 use Rattle.base.specs.Choice.{pick}
 use Rattle.base.specs.Lists.{some}
 use Rattle.base.specs.Standing.{place_after, standing, standing-last, length-standing}
-use Rattle.base.specs.declared.Cur.{Cur}
-use Rattle.base.specs.declared.Cur.TheVariants.{At, No}
 use Rattle.meaning.specs.Reader.{give}
 use Rattle.meaning.specs.Sections.{up_from, path_after, may_hang, near_root, is_near_root, a_step, steps}
 use Rattle.meaning.specs.declared.Step.{Step}
@@ -27,6 +25,7 @@ use Rattle.places.specs.Answer.{answer, answer-pick, passed, passed_not, then_by
 use Rattle.places.specs.Section.{Section, stands_as}
 use Rattle.places.specs.InTurn.{in_turn}
 use Rattle.meaning.specs.declared.Refusal.TheVariants.{LabelOutside, SecondNear, AxisUnknown, EndsEarly, ParentRule}
+use Rattle.places.specs.Bytes.{Place}
 
 -- ---- how steps are judged
 
@@ -38,25 +37,25 @@ climbs s p q (suc n) c =
     pick (eqb c q) true (pick (eqb c 0) false higher)
 
 -- the last byte of a step, its label
-unfoldable pub step_label : List ℕ → ℕ → ℕ → Cur
-step_label s known x = pick (ltb x (length s)) (pick (leb (get_or s x 0) known) (At (x + 1)) (No LabelOutside)) (No EndsEarly)
+unfoldable pub step_label : List ℕ → ℕ → ℕ → Place
+step_label s known x = pick (ltb x (length s)) (pick (leb (get_or s x 0) known) (Ok (x + 1)) (Err LabelOutside)) (Err EndsEarly)
 
 -- a second near step with parent 0, after the k steps from the place p on
 unfoldable pub is_second_near : List ℕ → ℕ → ℕ → ℕ → ℕ → Bool
 is_second_near s p k parent axis = near_root parent axis && some is_near_root (steps_at s p k)
 
 -- a step at x, after the k steps from the place p on, with so many labels
-unfoldable pub step_place : List ℕ → ℕ → ℕ → ℕ → ℕ → Cur
+unfoldable pub step_place : List ℕ → ℕ → ℕ → ℕ → ℕ → Place
 step_place s known p k x =
     pick (ltb x (length s))
     (pick (climbs s p (get_or s x 0) (k + 1) k)
     (pick (ltb (x + 1) (length s))
     (pick (leb (get_or s (x + 1) 0) 1)
-    (pick (is_second_near s p k (get_or s x 0) (get_or s (x + 1) 0)) (No SecondNear) (step_label s known (x + 2)))
-    (No AxisUnknown))
-    (No EndsEarly))
-    (No ParentRule))
-    (No EndsEarly)
+    (pick (is_second_near s p k (get_or s x 0) (get_or s (x + 1) 0)) (Err SecondNear) (step_label s known (x + 2)))
+    (Err AxisUnknown))
+    (Err EndsEarly))
+    (Err ParentRule))
+    (Err EndsEarly)
 
 -- ---- that is how they are read
 
@@ -173,17 +172,17 @@ module _ (s : List ℕ) (known p : ℕ) where
   step-reads k x w = simp (may_hang_lem k (get_or s x 0) w, answer-pick, then_byte, then_unless, pick_not, two)
 
   -- a step that was read: the next place, its parent was met, and it ends within the bytes
-  pub step-leads : (k x y : ℕ) → step_place s known p k x ≡ At y
+  pub step-leads : (k x y : ℕ) → step_place s known p k x ≡ Ok y
       → (y ≡ after_step x) × (climbs s p (get_or s x 0) (k + 1) k ≡ true) × (y ≤ length s)
   unfolding step_place step_label after_step
   step-leads k x y h =
-      let a = passed (ltb x (length s)) _ 1 y h in
-      let b = passed (climbs s p (get_or s x 0) (k + 1) k) _ 6 y a.1 in
-      let c = passed (ltb (x + 1) (length s)) _ 1 y b.1 in
-      let d = passed (leb (get_or s (x + 1) 0) 1) _ 7 y c.1 in
-      let e = passed_not (is_second_near s p k (get_or s x 0) (get_or s (x + 1) 0)) _ 9 y d.1 in
-      let f = passed (ltb (x + 2) (length s)) _ 1 y e.1 in
-      let g = passed (leb (get_or s (x + 2) 0) known) _ 8 y f.1 in
+      let a = passed (ltb x (length s)) _ EndsEarly y h in
+      let b = passed (climbs s p (get_or s x 0) (k + 1) k) _ ParentRule y a.1 in
+      let c = passed (ltb (x + 1) (length s)) _ EndsEarly y b.1 in
+      let d = passed (leb (get_or s (x + 1) 0) 1) _ AxisUnknown y c.1 in
+      let e = passed_not (is_second_near s p k (get_or s x 0) (get_or s (x + 1) 0)) _ SecondNear y d.1 in
+      let f = passed (ltb (x + 2) (length s)) _ EndsEarly y e.1 in
+      let g = passed (leb (get_or s (x + 2) 0) known) _ LabelOutside y f.1 in
       let q : y ≡ x + 2 + 1 = cc g.1 in
       let r : x + 2 < length s = ltb-true (x + 2) (length s) f.0 in
       (omega arith, b.0, omega arith)
@@ -194,7 +193,7 @@ module _ (s : List ℕ) (known p : ℕ) where
     pub before : t ≡ steps_at s p k
     pub path : PathUp k
 
-  pub steps_told : (k x y : ℕ) (t : List Step) → StepsTold k x t → step_place s known p k x ≡ At y
+  pub steps_told : (k x y : ℕ) (t : List Step) → StepsTold k x t → step_place s known p k x ≡ Ok y
       → StepsTold (k + 1) y (t ++ (step_at_place s x ∷ []))
   unfolding steps_at
   steps_told k x y t h e =
@@ -205,7 +204,7 @@ module _ (s : List ℕ) (known p : ℕ) where
         path = next k x h.there h.path leads.1;
       }
 
-  pub step-inside : (k x y : ℕ) → x ≤ length s → step_place s known p k x ≡ At y → y ≤ length s
+  pub step-inside : (k x y : ℕ) → x ≤ length s → step_place s known p k x ≡ Ok y → y ≤ length s
   step-inside k x y l e = (step-leads k x y e).2
 
   -- the n steps from the place p on

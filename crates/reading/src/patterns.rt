@@ -6,54 +6,44 @@ ghost use Rattle.reading.specs.SheetSection.{pattern_place, patterns_place};
 ghost use Rattle.places.specs.InTurn.{each_place};
 
 use crate::steps::steps;
-use base::Cur;
-use meaning::{COUNT_OUTSIDE, ENDS_EARLY, MOST_PATTERNS, MOST_STEPS};
+use meaning::{MOST_PATTERNS, MOST_STEPS, Refusal};
 use places::byte_at;
 
 // A pattern at x: a step count and the steps.
-pub fn pattern(s: &[u8], known: usize, x: usize) -> Cur
+pub fn pattern(s: &[u8], known: usize, x: usize) -> Result<usize, Refusal>
     ensures { result ≡ pattern_place s.now known x }
 {
     if s.len() <= x {
-        return Cur::No(ENDS_EARLY);
+        return Err(Refusal::EndsEarly);
     }
     let n = byte_at(s, x);
     if MOST_STEPS < n {
-        return Cur::No(COUNT_OUTSIDE);
+        return Err(Refusal::CountOutside);
     }
     steps(s, known, x + 1, n)
 }
 
 // The n patterns from the place p on.
-fn patterns_from(s: &[u8], known: usize, p: usize, n: usize) -> Cur
+fn patterns_from(s: &[u8], known: usize, p: usize, n: usize) -> Result<usize, Refusal>
     ensures { result ≡ run (each_place (pattern_section s.now known)) n 0 p }
 {
-    let mut i = 0;
     let mut x = p;
-    while i < n {
-        match pattern(s, known, x) {
-            Cur::At(y) => {
-                x = y;
-            }
-            Cur::No(m) => {
-                return Cur::No(m);
-            }
-        }
-        i += 1;
+    for i in 0..n {
+        x = pattern(s, known, x)?;
     }
-    Cur::At(x)
+    Ok(x)
 }
 
 // The patterns of a sheet, from their count on.
-pub fn patterns(s: &[u8], known: usize, x: usize) -> Cur
+pub fn patterns(s: &[u8], known: usize, x: usize) -> Result<usize, Refusal>
     ensures { result ≡ patterns_place s.now known x }
 {
     if s.len() <= x {
-        return Cur::No(ENDS_EARLY);
+        return Err(Refusal::EndsEarly);
     }
     let n = byte_at(s, x);
     if MOST_PATTERNS < n {
-        return Cur::No(COUNT_OUTSIDE);
+        return Err(Refusal::CountOutside);
     }
     patterns_from(s, known, x + 1, n)
 }

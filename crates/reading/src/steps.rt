@@ -7,8 +7,7 @@ ghost use Rattle.meaning.specs.Sections.{is_near_root};
 ghost use Rattle.reading.specs.SheetPlaces.{step_at_place, steps_at};
 ghost use Rattle.reading.specs.StepSection.{climbs, is_second_near, step_label, step_place};
 
-use base::Cur;
-use meaning::{AXIS_UNKNOWN, ENDS_EARLY, LABEL_OUTSIDE, PARENT_RULE, SECOND_NEAR};
+use meaning::Refusal;
 use places::byte_at;
 
 // Step q, or the root, is met going up from step c at most n times, where the steps stand from the place p on.
@@ -16,9 +15,8 @@ fn climbs_to(s: &[u8], p: usize, q: usize, n: usize, c: usize) -> bool
     requires { (p ≤ length s.now) × (c < 256) }
     ensures { result ≡ climbs s.now p q n c }
 {
-    let mut i = 0;
     let mut at = c;
-    while i < n {
+    for _ in 0..n {
         if at == q {
             return true;
         }
@@ -26,7 +24,6 @@ fn climbs_to(s: &[u8], p: usize, q: usize, n: usize, c: usize) -> bool
             return false;
         }
         at = byte_at(s, p + 3 * (at - 1));
-        i += 1;
     }
     false
 }
@@ -36,10 +33,7 @@ fn near_root_at(s: &[u8], x: usize) -> bool
     requires { x < 2 ^ 63 + 100 }
     ensures { result ≡ is_near_root (step_at_place s.now x) }
 {
-    if byte_at(s, x) != 0 {
-        return false;
-    }
-    byte_at(s, x + 1) == 0
+    byte_at(s, x) == 0 && byte_at(s, x + 1) == 0
 }
 
 // One of the k steps from the place p on is near and has parent 0.
@@ -47,14 +41,10 @@ fn near_at_root(s: &[u8], p: usize, k: usize) -> bool
     requires { (p ≤ length s.now) × (k ≤ most_steps) }
     ensures { result ≡ some is_near_root (steps_at s.now p k) }
 {
-    let mut i = 0;
-    let mut x = p;
-    while i < k {
-        if near_root_at(s, x) {
+    for i in 0..k {
+        if near_root_at(s, p + 3 * i) {
             return true;
         }
-        x += 3;
-        i += 1;
     }
     false
 }
@@ -74,60 +64,51 @@ fn second_near(s: &[u8], p: usize, k: usize, parent: usize, axis: usize) -> bool
 }
 
 // The last byte of a step, its label.
-fn step_label(s: &[u8], known: usize, x: usize) -> Cur
+fn step_label(s: &[u8], known: usize, x: usize) -> Result<usize, Refusal>
     ensures { result ≡ step_label s.now known x }
 {
     if s.len() <= x {
-        return Cur::No(ENDS_EARLY);
+        return Err(Refusal::EndsEarly);
     }
     if known < byte_at(s, x) {
-        return Cur::No(LABEL_OUTSIDE);
+        return Err(Refusal::LabelOutside);
     }
-    Cur::At(x + 1)
+    Ok(x + 1)
 }
 
 // A step at x, after the k steps from the place p on, with so many labels.
-fn step(s: &[u8], known: usize, p: usize, k: usize, x: usize) -> Cur
+fn step(s: &[u8], known: usize, p: usize, k: usize, x: usize) -> Result<usize, Refusal>
     requires { (p ≤ length s.now) × (k ≤ most_steps) }
     ensures { result ≡ step_place s.now known p k x }
 {
     if s.len() <= x {
-        return Cur::No(ENDS_EARLY);
+        return Err(Refusal::EndsEarly);
     }
     let parent = byte_at(s, x);
     if !climbs_to(s, p, parent, k + 1, k) {
-        return Cur::No(PARENT_RULE);
+        return Err(Refusal::ParentRule);
     }
     if s.len() <= x + 1 {
-        return Cur::No(ENDS_EARLY);
+        return Err(Refusal::EndsEarly);
     }
     let axis = byte_at(s, x + 1);
     if 1 < axis {
-        return Cur::No(AXIS_UNKNOWN);
+        return Err(Refusal::AxisUnknown);
     }
     if second_near(s, p, k, parent, axis) {
-        return Cur::No(SECOND_NEAR);
+        return Err(Refusal::SecondNear);
     }
     step_label(s, known, x + 2)
 }
 
 // The n steps from the place p on, with so many labels.
-pub fn steps(s: &[u8], known: usize, p: usize, n: usize) -> Cur
+pub fn steps(s: &[u8], known: usize, p: usize, n: usize) -> Result<usize, Refusal>
     requires { (p ≤ length s.now) × (n ≤ most_steps) }
     ensures { result ≡ run (step_place s.now known p) n 0 p }
 {
-    let mut k = 0;
     let mut x = p;
-    while k < n {
-        match step(s, known, p, k, x) {
-            Cur::At(y) => {
-                x = y;
-            }
-            Cur::No(m) => {
-                return Cur::No(m);
-            }
-        }
-        k += 1;
+    for k in 0..n {
+        x = step(s, known, p, k, x)?;
     }
-    Cur::At(x)
+    Ok(x)
 }

@@ -1,5 +1,5 @@
 -- The plain route, one subscription after the other; and one subscription asked by its number.
-use Rattle.std.specs.Prelude.{ℕ, suc, ◌+◌, ◌≤◌, ◌<◌, ◌≡◌, Bool, ltb, get_or, take}
+use Rattle.std.specs.Prelude.{ℕ, suc, ◌+◌, ◌≤◌, ◌<◌, ◌≡◌, Bool, ltb, get_or, take, Result, Ok, Err}
 use Rattle.std.proofs.Math.Path.{refl, ap}
 use Rattle.std.proofs.Common.{sym, ◌∙◌, arith, add-one, lt-ltb, le-ltb, take-suc, take_all}
 use mathlib.Core.List.{List, [], ◌∷◌, ◌++◌, map, map-append}
@@ -11,8 +11,6 @@ use Rattle.meaning.specs.Sections.{Node, Sheet}
 use Rattle.meaning.specs.Satisfying.{satisfies}
 use Rattle.meaning.specs.Routing.{delivery_set, plain_route}
 use Rattle.meaning.specs.Calls.{is_subscription, subscription}
-use Rattle.meaning.specs.declared.Asked.{Asked}
-use Rattle.meaning.specs.declared.Asked.TheVariants as asked
 use Rattle.laws.specs.Marks.{marked, delivery_last}
 use Rattle.shapes.specs.Shapes.{pattern_of}
 use Rattle.reading.specs.SheetPlaces.{sheet_at}
@@ -20,6 +18,7 @@ use Rattle.subscriptions.specs.declared.Subscriptions.{Subscriptions}
 use Rattle.subscriptions.specs.Taken.{pattern_at}
 use Rattle.subscriptions.specs.Subscribed.{SubscriptionsStand}
 use Rattle.meaning.specs.declared.Refusal.TheVariants.{NotThere}
+use Rattle.meaning.specs.declared.Refusal.{Refusal}
 
 module _ (ns : List Node) (ps : List Forest) where
   -- the delivery set of the first i subscriptions
@@ -71,19 +70,19 @@ module _ {ns : List Node} {s : List ℕ} {v : Subscriptions} where
     delivery_ends h = all_delivered ns (sheet_at s).patterns i set (omega (arith, turn.stand.counted)) turn.so_far
 
 -- one subscription of a sheet asked by its number
-unfoldable pub numbered_answer : List Node → Sheet → ℕ → Asked
-numbered_answer ns sh i = pick (is_subscription sh i) (asked.Said (satisfies ns (subscription sh i))) (asked.Refused NotThere)
+unfoldable pub numbered_answer : List Node → Sheet → ℕ → Result Bool Refusal
+numbered_answer ns sh i = pick (is_subscription sh i) (Ok (satisfies ns (subscription sh i))) (Err NotThere)
 
 module _ (ns : List Node) {s : List ℕ} {v : Subscriptions} (stand : SubscriptionsStand s v) (i : ℕ) where
   -- there is such a subscription, and the pattern at its place is asked
   pub answer_there : {said : Bool} → i < v.count → said ≡ satisfies ns (pattern_of (pattern_at s (get_or v.places i 0)))
-      → asked.Said said ≡ numbered_answer ns (sheet_at s) i
+      → Ok said ≡ numbered_answer ns (sheet_at s) i
   unfolding numbered_answer is_subscription subscription
   answer_there h e =
       pick_true _ _ _ (ltb i (length (sheet_at s).patterns)) (lt-ltb i _ (omega (arith, stand.counted)))
-      (ap asked.Said (e ∙ ap (satisfies ns) (stand.taken i h).0))
+      (ap Ok (e ∙ ap (satisfies ns) (stand.taken i h).0))
 
   -- there is none
-  pub answer-not_there : v.count ≤ i → asked.Refused NotThere ≡ numbered_answer ns (sheet_at s) i
+  pub answer-not_there : v.count ≤ i → Err NotThere ≡ numbered_answer ns (sheet_at s) i
   unfolding numbered_answer is_subscription
   answer-not_there h = pick_false _ _ _ (ltb i (length (sheet_at s).patterns)) (le-ltb i _ (omega (arith, stand.counted))) refl

@@ -1,13 +1,10 @@
 -- Whether anyone wants a document, with the tries until that was known; the answer of the hub's call is the same without the tries.
-use Rattle.std.specs.Prelude.{ℕ, ◌+◌, ◌≡◌, refl, not, List, eqb}
+use Rattle.std.specs.Prelude.{ℕ, ◌+◌, ◌≡◌, refl, not, List, eqb, Result, Ok, Err}
 use Rattle.std.proofs.Math.Path.{sym}
 use Rattle.std.proofs.Common.{◌∙◌}
-use Rattle.base.specs.declared.Cur.TheVariants.{At, No}
 use Rattle.meaning.specs.Sections.{Sheet, Document, Entry}
 use Rattle.meaning.specs.Routing.{table_route, wanted, tried_until_wanted}
 use Rattle.meaning.specs.Calls.{three_judged, wanted_answer}
-use Rattle.meaning.specs.declared.Asked.{Asked}
-use Rattle.meaning.specs.declared.Asked.TheVariants as asked
 use Rattle.laws.specs.ThreeParts.{three_map}
 use Rattle.laws.specs.WantedRoutes.{wanted-routed}
 use Rattle.matching.specs.declared.Tried.{Tried}
@@ -20,6 +17,7 @@ use Rattle.tables.specs.TableSection.{table_at}
 use Rattle.routing.specs.declared.Sought.{Sought}
 use Rattle.routing.specs.declared.Sought.TheVariants as sought
 use Rattle.routing.specs.ThreeJudged.{three_place, three_judged_lem, three_nodes, three_fair}
+use Rattle.meaning.specs.declared.Refusal.{Refusal}
 
 -- whether anyone wants the document, and the tries until the answer comes
 abbrev told : Sheet → List Entry → Document → Sought
@@ -30,9 +28,9 @@ unfoldable pub sought_answer : List ℕ → List ℕ → List ℕ → Sought
 sought_answer = three_judged sought.Refused told
 
 -- without the tries
-unfoldable pub without_tries : Sought → Asked
-without_tries (sought.Refused n) = asked.Refused n
-without_tries (sought.Told yes' tried) = asked.Said yes'
+unfoldable pub without_tries : Sought → Result Bool Refusal
+without_tries (sought.Refused n) = Err n
+without_tries (sought.Told yes' tried) = Ok yes'
 
 module _ (s t d : List ℕ) where
   -- the hub's answer
@@ -46,12 +44,12 @@ module _ (s t d : List ℕ) where
   sought_by_place = three_judged_lem s t d sought.Refused told
 
   -- a refusal
-  pub sought_refused : {m : ℕ} → three_place s t d ≡ No m → sought.Refused m ≡ sought_answer s t d
+  pub sought_refused : {m : Refusal} → three_place s t d ≡ Err m → sought.Refused m ≡ sought_answer s t d
   unfolding reached
   sought_refused h = sym (sought_by_place ∙ rw h)
 
   -- what asking by the table gives
-  pub sought_told : {y at n : ℕ} {q : Tried} → three_place s t d ≡ At y → at ≡ node_count_at d + 2 → n ≡ pair_at d (node_count_at d)
+  pub sought_told : {y at n : ℕ} {q : Tried} → three_place s t d ≡ Ok y → at ≡ node_count_at d + 2 → n ≡ pair_at d (node_count_at d)
       → (q.yes ≡ not (eqb (table_route (nodes_at d at n) (table_at t) (sheet_at s).patterns) 0))
       × (q.tried ≡ tried_until_wanted (nodes_at d at n) (table_at t) (sheet_at s).patterns)
       → sought.Told q.yes q.tried ≡ sought_answer s t d

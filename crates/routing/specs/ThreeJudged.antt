@@ -1,15 +1,13 @@
 -- Sheet, table and document judged by places, in this order.
-use Rattle.std.specs.Prelude.{ℕ, ◌+◌, ◌≡◌, true, List}
+use Rattle.std.specs.Prelude.{ℕ, ◌+◌, ◌≡◌, true, List, Ok}
 use Rattle.std.proofs.Math.Path.{ap}
 use Rattle.std.proofs.Common.{◌∙◌}
 use Rattle.base.specs.Loops.{and_then}
-use Rattle.base.specs.declared.Cur.{Cur}
-use Rattle.base.specs.declared.Cur.TheVariants.{At}
 use Rattle.meaning.specs.Sections.{Sheet, Document, document, Entry}
 use Rattle.meaning.specs.Fair.{fair}
 use Rattle.meaning.specs.Calls.{judged, three_judged}
 use Rattle.places.specs.Answer.{passed_on}
-use Rattle.places.specs.Bytes.{pair_at}
+use Rattle.places.specs.Bytes.{pair_at, Place}
 use Rattle.places.specs.Reached.{reached, reached-twice}
 use Rattle.reading.specs.SheetPlaces.{sheet_at}
 use Rattle.documents.specs.DocumentSection.{document_place, node_count_at, document_at}
@@ -21,14 +19,15 @@ use Rattle.tables.specs.declared.Entries.{Entries}
 use Rattle.tables.specs.TableSection.{table_at, table_entries}
 use Rattle.tables.specs.TableJudged.{EntriesStand}
 use Rattle.fairness.specs.FairJudged.{fair_at, fair_place, fair-judged, was_fair, fair-stand}
+use Rattle.meaning.specs.declared.Refusal.{Refusal}
 
 -- where all three end: the sheet and the table, 12 last, then the document
-unfoldable pub three_place : List ℕ → List ℕ → List ℕ → Cur
+unfoldable pub three_place : List ℕ → List ℕ → List ℕ → Place
 three_place s t d = and_then (fair_place s t) (λ x. document_place s d)
 
 module _ (s t d : List ℕ) where
   -- what follows is answered by that place
-  pub three_judged_lem : {B : Type 0} (refuse : ℕ → B) (next : Sheet → List Entry → Document → B)
+  pub three_judged_lem : {B : Type 0} (refuse : Refusal → B) (next : Sheet → List Entry → Document → B)
       → three_judged refuse next s t d ≡ reached (three_place s t d) refuse (next (sheet_at s) (table_at t) (document_at d))
   unfolding three_judged three_place
   three_judged_lem refuse next =
@@ -37,12 +36,12 @@ module _ (s t d : List ℕ) where
       ∙ reached-twice (fair_place s t) (document_place s d) refuse (next (sheet_at s) (table_at t) (document_at d))
 
   -- where it was reached, the document's nodes stand
-  pub three_nodes : {y at n : ℕ} → three_place s t d ≡ At y → at ≡ node_count_at d + 2 → n ≡ pair_at d (node_count_at d) → NodesStand d at n
+  pub three_nodes : {y at n : ℕ} → three_place s t d ≡ Ok y → at ≡ node_count_at d + 2 → n ≡ pair_at d (node_count_at d) → NodesStand d at n
   unfolding three_place
   three_nodes {y} h a b = document-stands s d y _ _ (passed_on (fair_place s t) _ y h).2 a b
 
   -- and so do subscriptions and entries
-  pub three_stand : {y at n : ℕ} {v : Subscriptions} {w : Entries} → three_place s t d ≡ At y → v ≡ subscriptions_of s → w ≡ table_entries t
+  pub three_stand : {y at n : ℕ} {v : Subscriptions} {w : Entries} → three_place s t d ≡ Ok y → v ≡ subscriptions_of s → w ≡ table_entries t
       → at ≡ node_count_at d + 2 → n ≡ pair_at d (node_count_at d) → SubscriptionsStand s v × EntriesStand t w × NodesStand d at n
   unfolding three_place
   three_stand {y} h e f a b =
@@ -50,6 +49,6 @@ module _ (s t d : List ℕ) where
       (both.0, both.1, three_nodes h a b)
 
   -- the table is fair
-  pub three_fair : {y : ℕ} → three_place s t d ≡ At y → fair (sheet_at s).patterns (table_at t) ≡ true
+  pub three_fair : {y : ℕ} → three_place s t d ≡ Ok y → fair (sheet_at s).patterns (table_at t) ≡ true
   unfolding three_place fair_at
   three_fair {y} h = was_fair s t (passed_on (fair_place s t) _ y h).1

@@ -1,5 +1,5 @@
 -- A pattern as a line: its text is put into 1,024 bytes, which are enough, and written where there is room for it.
-use Rattle.std.specs.Prelude.{ℕ, ◌≤◌, ◌<◌, ◌≡◌, Bool, not, List, length, take, replicate}
+use Rattle.std.specs.Prelude.{ℕ, ◌≤◌, ◌<◌, ◌≡◌, Bool, not, List, length, take, replicate, Ok, Err}
 use Rattle.std.proofs.Math.Path.{refl}
 use Rattle.std.proofs.Common.{sym, ◌∙◌, arith, take_at}
 use Rattle.std.proofs.Math.Bool.{true, false}
@@ -13,7 +13,6 @@ use Rattle.meaning.specs.Forest.{Forest, steps_of}
 use Rattle.meaning.specs.PatternText.{pattern_text}
 use Rattle.meaning.specs.Calls.{writes}
 use Rattle.meaning.specs.LineCalls.{step_writable, text_writing, output_answer}
-use Rattle.meaning.specs.declared.Output.TheVariants as output
 use Rattle.laws.specs.TextRoom.{sheet-sized, pattern-room}
 use Rattle.shapes.specs.Shapes.{pattern_of, WellFormed}
 use Rattle.shapes.specs.Steps.{count-size}
@@ -56,7 +55,7 @@ line-put s stands p sound after n h =
 
 module _ (ls : List (List ℕ)) (f : Forest) (out : List ℕ) (r : Bool) (said : r ≡ every (step_writable ls) (steps_of f)) where
   -- a label can't stand in a line
-  pub line_refused : not r ≡ true → Gives output_answer out (text_writing ls f) (output.Refused NotWritable) out
+  pub line_refused : not r ≡ true → Gives output_answer out (text_writing ls f) (Err NotWritable) out
   unfolding output_answer text_writing
   line_refused e = gives-refusal output_answer out NotWritable _ (pick_false _ _ _ _ (sym said ∙ not-true r e) refl)
 
@@ -67,7 +66,7 @@ module _ (ls : List (List ℕ)) (f : Forest) (out : List ℕ) (r : Bool) (said :
 
   -- there is no room for it
   pub line-no_room : not r ≡ false → (n : ℕ) → n ≡ length (pattern_text ls f) → length out < n
-      → Gives output_answer out (text_writing ls f) (output.Refused NoRoom) out
+      → Gives output_answer out (text_writing ls f) (Err NoRoom) out
   unfolding output_answer
   line-no_room e n long short =
       let left = not_written out (pattern_text ls f) n long short in
@@ -75,7 +74,7 @@ module _ (ls : List (List ℕ)) (f : Forest) (out : List ℕ) (r : Bool) (said :
 
   -- there is
   pub line-written : not r ≡ false → (n : ℕ) (part : List ℕ) → n ≡ length (pattern_text ls f) → part ≡ pattern_text ls f → n ≤ length out
-      → (now : List ℕ) (next : ℕ) → written now next ≡ put (written out 0) part → Gives output_answer out (text_writing ls f) (output.Wrote n) now
+      → (now : List ℕ) (next : ℕ) → written now next ≡ put (written out 0) part → Gives output_answer out (text_writing ls f) (Ok n) now
   unfolding output_answer written_over
   line-written e n part long is fits now next h =
       let text = pattern_text ls f in

@@ -1,9 +1,8 @@
 -- What the calls say beside a sheet that was judged; and each answer, from the places where judging ended.
-use Rattle.std.specs.Prelude.{ℕ, ◌≤◌, ◌<◌, ◌≡◌, List, length, get_or}
+use Rattle.std.specs.Prelude.{ℕ, ◌≤◌, ◌<◌, ◌≡◌, List, length, get_or, Ok, Err}
 use Rattle.std.proofs.Math.Path.{refl, sym, ap}
 use Rattle.std.proofs.Common.{◌∙◌, lt-ltb, le-ltb}
 use Rattle.base.specs.Choice.{pick, pick_true, pick_false}
-use Rattle.base.specs.declared.Cur.TheVariants.{At, No}
 use Rattle.meaning.specs.Forest.{Forest}
 use Rattle.meaning.specs.Sections.{Sheet}
 use Rattle.meaning.specs.Calls.{judged, is_subscription, subscription, Writing, refuses}
@@ -19,6 +18,7 @@ use Rattle.subscriptions.specs.Subscribed.{SubscriptionsStand}
 use Rattle.subscriptions.specs.declared.Subscriptions.{Subscriptions}
 use Rattle.spelling.specs.OnlyPattern.{only_section, only_place, only_taken}
 use Rattle.meaning.specs.declared.Refusal.TheVariants.{NotThere}
+use Rattle.meaning.specs.declared.Refusal.{Refusal}
 
 -- of a pattern's bytes
 unfoldable pub pattern_says : Sheet → List ℕ → Writing (Unit {0})
@@ -38,14 +38,14 @@ module _ (s p : List ℕ) (known : ℕ) (counted : known ≡ get_or s 0 0) where
       ∙ section-judged (only_section p known) refuses (λ f. text_writing (sheet_at s).labels f)
 
   -- where they are sound, the pattern by value
-  pub bytes-said : (y : ℕ) → only_place p known ≡ At y → (q : Pattern) → q ≡ pattern_at p 0
+  pub bytes-said : (y : ℕ) → only_place p known ≡ Ok y → (q : Pattern) → q ≡ pattern_at p 0
       → text_writing (sheet_at s).labels (pattern_of q) ≡ pattern_says (sheet_at s) p
   bytes-said y h q e =
       ap (text_writing (sheet_at s).labels) (ap pattern_of e ∙ (only_taken p known y h).0)
       ∙ sym (by_place ∙ was_reached (only_place p known) y refuses _ h)
 
   -- where they are refused
-  pub bytes-refused : (n : ℕ) → only_place p known ≡ No n → refuses n ≡ pattern_says (sheet_at s) p
+  pub bytes-refused : (n : Refusal) → only_place p known ≡ Err n → refuses n ≡ pattern_says (sheet_at s) p
   bytes-refused n h = sym (by_place ∙ was_refused (only_place p known) n refuses _ h)
 
 -- ---- a subscription
@@ -64,19 +64,19 @@ module _ {s : List ℕ} {v : Subscriptions} (stand : SubscriptionsStand s v) (i 
 -- ---- each call, from the place where judging the sheet ended
 
 module _ (s p : List ℕ) where
-  pub pattern_said_lem : (y : ℕ) → sheet_place s ≡ At y → pattern_says (sheet_at s) p ≡ pattern_writing s p
+  pub pattern_said_lem : (y : ℕ) → sheet_place s ≡ Ok y → pattern_says (sheet_at s) p ≡ pattern_writing s p
   unfolding pattern_says pattern_writing
   pattern_said_lem = sheet-said s refuses (λ sh. pattern_says sh p)
 
-  pub pattern-refused : (n : ℕ) → sheet_place s ≡ No n → refuses n ≡ pattern_writing s p
+  pub pattern-refused : (n : Refusal) → sheet_place s ≡ Err n → refuses n ≡ pattern_writing s p
   unfolding pattern_says pattern_writing
   pattern-refused = sheet-refused s refuses (λ sh. pattern_says sh p)
 
 module _ (s : List ℕ) (i : ℕ) where
-  pub subscription-said : (y : ℕ) → sheet_place s ≡ At y → subscription_says (sheet_at s) i ≡ subscription_writing s i
+  pub subscription-said : (y : ℕ) → sheet_place s ≡ Ok y → subscription_says (sheet_at s) i ≡ subscription_writing s i
   unfolding subscription_says subscription_writing
   subscription-said = sheet-said s refuses (λ sh. subscription_says sh i)
 
-  pub subscription-refused : (n : ℕ) → sheet_place s ≡ No n → refuses n ≡ subscription_writing s i
+  pub subscription-refused : (n : Refusal) → sheet_place s ≡ Err n → refuses n ≡ subscription_writing s i
   unfolding subscription_says subscription_writing
   subscription-refused = sheet-refused s refuses (λ sh. subscription_says sh i)

@@ -1,5 +1,5 @@
 -- A pattern by value is the pattern that was read at its place, and the subscriptions of a sheet are taken from their places.
-use Rattle.std.specs.Prelude.{ℕ, ◌+◌, ◌*◌, ◌-◌, ◌≤◌, ◌<◌, ◌≡◌, List, leb, ltb, take, drop}
+use Rattle.std.specs.Prelude.{ℕ, ◌+◌, ◌*◌, ◌-◌, ◌≤◌, ◌<◌, ◌≡◌, List, leb, ltb, take, drop, Ok}
 use Rattle.std.proofs.Math.Path.{sym, ap}
 use Rattle.std.proofs.Common.{◌∙◌, length-take-le, arith}
 use Rattle.std.proofs.Math.ListN.{length, get_or}
@@ -7,7 +7,6 @@ use Rattle.std.proofs.Math.Seq.{length_front, take_at}
 use borrow.Author.Tests.{ltb-true, leb-true, le-leb, le-ltb}
 use Rattle.base.specs.Choice.{pick}
 use Rattle.base.specs.Standing.{place_after, length-standing, get_or-standing, run_at}
-use Rattle.base.specs.declared.Cur.TheVariants.{At}
 use Rattle.meaning.specs.Numbers.{most_steps, most_patterns}
 use Rattle.meaning.specs.Reader.{read}
 use Rattle.meaning.specs.Forest.{Forest, none, forest, steps_of}
@@ -21,14 +20,14 @@ use Rattle.reading.specs.StepSection.{steps_section}
 use Rattle.places.specs.Answer.{passed}
 use Rattle.subscriptions.specs.Taken.{steps_filled, pattern_at, itself, pattern_places, subscription_count, subscriptions_of}
 use Rattle.places.specs.InTurn.{each_place}
-use Rattle.meaning.specs.declared.Refusal.TheVariants.{CountOutside}
+use Rattle.meaning.specs.declared.Refusal.TheVariants.{CountOutside, EndsEarly}
 
 module _ (s : List ℕ) (known x : ℕ) where
   -- a pattern that was judged at x is taken whole
-  taken-whole : (y : ℕ) → pattern_place s known x ≡ At y → pattern_at s x ≡ record { count = get_or s x 0; steps = steps_filled s (x + 1) (get_or s x 0) }
+  taken-whole : (y : ℕ) → pattern_place s known x ≡ Ok y → pattern_at s x ≡ record { count = get_or s x 0; steps = steps_filled s (x + 1) (get_or s x 0) }
   unfolding pattern_section pattern_at after_pattern pick
   taken-whole y h =
-      let a = passed (ltb x (length s)) _ 1 y h in
+      let a = passed (ltb x (length s)) _ EndsEarly y h in
       let b = passed (leb (get_or s x 0) most_steps) _ CountOutside y a.1 in
       let inside : x < length s = ltb-true x (length s) a.0 in
       let far : y ≡ x + 1 + 3 * get_or s x 0 = (pattern_section s known x).leads y h in
@@ -51,11 +50,11 @@ module _ (s : List ℕ) (known x : ℕ) where
   steps-full n h = length_front no_steps.steps (steps_at s (x + 1) n) n (steps-counted n ∙ sym (length-take-le n no_steps.steps h))
 
   -- and it is the one that stands there, well formed
-  pub taken-sound : (y : ℕ) → pattern_place s known x ≡ At y → (pattern_of (pattern_at s x) ≡ forest_at s x) × WellFormed (pattern_at s x)
+  pub taken-sound : (y : ℕ) → pattern_place s known x ≡ Ok y → (pattern_of (pattern_at s x) ≡ forest_at s x) × WellFormed (pattern_at s x)
   unfolding pattern_of steps_in forest_at pattern_section
   taken-sound y h =
       let n = get_or s x 0 in
-      let a = passed (ltb x (length s)) _ 1 y h in
+      let a = passed (ltb x (length s)) _ EndsEarly y h in
       let b = passed (leb n most_steps) _ CountOutside y a.1 in
       let few : n ≤ most_steps = leb-true n most_steps b.0 in
       let were = section-read (steps_section s known (x + 1) n) y b.1 in

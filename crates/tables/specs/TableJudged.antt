@@ -1,5 +1,5 @@
 -- The entries of a table that was judged beside a sheet, by their places: how many there are, and each by value.
-use Rattle.std.specs.Prelude.{ℕ, ◌+◌, ◌-◌, ◌≤◌, ◌<◌, ◌≡◌, true, List, leb, ltb, length}
+use Rattle.std.specs.Prelude.{ℕ, ◌+◌, ◌-◌, ◌≤◌, ◌<◌, ◌≡◌, true, List, leb, ltb, length, Ok}
 use Rattle.std.proofs.Math.Path.{sym}
 use Rattle.std.proofs.Common.{ap, ◌∙◌, arith}
 use borrow.Author.Tests.{leb-true}
@@ -7,7 +7,6 @@ use Rattle.std.proofs.Math.ListN.{get_or}
 use Rattle.base.specs.Choice.{pick}
 use Rattle.base.specs.Loops.{run}
 use Rattle.base.specs.Standing.{place_after, length-standing, get_or-standing, run_at}
-use Rattle.base.specs.declared.Cur.TheVariants.{At}
 use Rattle.meaning.specs.Numbers.{most_entries}
 use Rattle.meaning.specs.Forest.{Forest}
 use Rattle.meaning.specs.Sections.{Entry}
@@ -22,7 +21,7 @@ use Rattle.tables.specs.declared.Entries.{Entries}
 use Rattle.tables.specs.TableSection.{after_entry, entry_in, entry_taken, table_at, entry_places, table_entries}
 use Rattle.tables.specs.TableSection.{entry_section, table_section, table_place}
 use Rattle.places.specs.InTurn.{each_place}
-use Rattle.meaning.specs.declared.Refusal.TheVariants.{CountOutside}
+use Rattle.meaning.specs.declared.Refusal.TheVariants.{CountOutside, EndsEarly}
 
 -- as many as the table has entries, at most 64, each the entry at its place, its pattern well formed
 pub record EntriesStand (t : List ℕ) (v : Entries) : Type 0 where
@@ -35,17 +34,17 @@ pub record EntriesStand (t : List ℕ) (v : Entries) : Type 0 where
 abbrev made : ℕ → Forest → Entry
 made ms p = record { members = ms; pattern = p }
 
-module _ (s t : List ℕ) (y : ℕ) (h : table_place s t ≡ At y) where
+module _ (s t : List ℕ) (y : ℕ) (h : table_place s t ≡ Ok y) where
   -- the entries were read where they stand
   record AllRead : Type 0 where
     few : leb (get_or t 0 0) most_entries ≡ true
     final : ℕ
-    all_read : run (each_place (entry_section t (get_or s 0 0))) (get_or t 0 0) 0 1 ≡ At final
+    all_read : run (each_place (entry_section t (get_or s 0 0))) (get_or t 0 0) 0 1 ≡ Ok final
 
   all_read : AllRead
   unfolding table_section
   all_read =
-      let a = passed (ltb 0 (length t)) _ 1 y h in
+      let a = passed (ltb 0 (length t)) _ EndsEarly y h in
       let b = passed (leb (get_or t 0 0) most_entries) _ CountOutside y a.1 in
       let e = passed_on (run (each_place (entry_section t (get_or s 0 0))) (get_or t 0 0) 0 1) _ y b.1 in
       record { few = b.0; final = e.0; all_read = e.1 }
@@ -63,7 +62,7 @@ module _ (s t : List ℕ) (y : ℕ) (h : table_place s t ≡ At y) where
       let which : get_or (table_at t) i d ≡ entry_in t x = get_or-standing (entry_in t) (after_entry t) 1 n i d b in
       let each = entry_section t (get_or s 0 0) in
       let was = run_at (each_place each) (after_entry t) (λ j z. (each z).leads) n 0 1 _ i all_read.all_read b in
-      let r = taken-sound t (get_or s 0 0) (x + 8) was.0 (passed (leb 8 (length t - x)) _ 1 was.0 was.1).1 in
+      let r = taken-sound t (get_or s 0 0) (x + 8) was.0 (passed (leb 8 (length t - x)) _ EndsEarly was.0 was.1).1 in
       rw (there, which) (ap (λ (p : Forest). made (number_in t x 8) p) r.0, r.1)
 
   -- so it is of a table that was judged beside a sheet

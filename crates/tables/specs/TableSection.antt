@@ -5,7 +5,6 @@ use Rattle.std.proofs.Common.{sym, ap}
 use Rattle.base.specs.Choice.{pick}
 use Rattle.base.specs.Loops.{and_then}
 use Rattle.base.specs.Standing.{standing}
-use Rattle.base.specs.declared.Cur.{Cur}
 use Rattle.meaning.specs.Numbers.{most_entries}
 use Rattle.meaning.specs.Reader.{repeat}
 use Rattle.meaning.specs.Sections.{Entry, entry, table}
@@ -19,6 +18,7 @@ use Rattle.tables.specs.declared.Entries.{Entries}
 use Rattle.places.specs.Fields.{byte_then, number_then, unless_then, then_given, section_then, end_then}
 use Rattle.places.specs.InTurn.{repeated}
 use Rattle.meaning.specs.declared.Refusal.TheVariants.{CountOutside}
+use Rattle.places.specs.Bytes.{Place}
 
 -- ---- where entries stand: eight bytes of members, then the pattern
 
@@ -62,7 +62,7 @@ entry_section t known x =
     then_given (λ p. record { members = ms; pattern = p }) (pattern_section t known (x + 8)))
     refl refl
 
-abbrev pub entry_place : List ℕ → ℕ → ℕ → Cur
+abbrev pub entry_place : List ℕ → ℕ → ℕ → Place
 entry_place t known x = (entry_section t known x).place
 
 -- the bytes of a table, beside the sheet
@@ -77,9 +77,9 @@ table_section s t =
     refl refl
 
 -- where a table ends, or the number of its first fault
-abbrev pub table_place : List ℕ → List ℕ → Cur
+abbrev pub table_place : List ℕ → List ℕ → Place
 table_place s t = (table_section s t).place
 
 -- where both end, the sheet judged first
-unfoldable pub sheet_table_place : List ℕ → List ℕ → Cur
+unfoldable pub sheet_table_place : List ℕ → List ℕ → Place
 sheet_table_place s t = and_then (sheet_place s) (λ x. table_place s t)

@@ -6,6 +6,7 @@ use Rattle.base.specs.Choice.{pick}
 use Rattle.meaning.specs.Calls.{Writing, refuses, writes, with_room, after}
 use Rattle.writing.specs.OutputAfter.{written_over, after_writing}
 use Rattle.meaning.specs.declared.Refusal.TheVariants.{NoRoom}
+use Rattle.meaning.specs.declared.Refusal.{Refusal}
 
 -- an answer and an output that a call which writes w gives
 abbrev pub Gives : {A R : Type 0} → (Writing A → R) → List ℕ → Writing A → R → List ℕ → Type 0
@@ -13,7 +14,7 @@ Gives answered out w r now = (r ≡ answered (with_room out w)) × (now ≡ afte
 
 module _ {A R : Type 0} (answered : Writing A → R) (out : List ℕ) where
   -- a refusal leaves the output as found
-  pub gives-refusal : (n : ℕ) (w : Writing A) → refuses n ≡ w → Gives answered out w (answered (refuses n)) out
+  pub gives-refusal : (n : Refusal) (w : Writing A) → refuses n ≡ w → Gives answered out w (answered (refuses n)) out
   unfolding with_room after
   gives-refusal n w e = (ap (λ (v : Writing A). answered (with_room out v)) e, ap (λ (v : Writing A). after out (with_room out v)) e)
 

@@ -8,9 +8,9 @@ use Rattle.answers.proofs.build.Goals as goal
 pub build_first-requires : goal.build_first-requires
 build_first-requires c = sheet-stands _ _ (sym c.sheet.ensures ∙ c.in-At.is)
 
-pub returns-in-At : goal.returns-in-At
-returns-in-At c =
+pub returns-in-Ok : goal.returns-in-Ok
+returns-in-Ok c =
     build-same _ _ _ (build-said _ _ _ (sym c.sheet.ensures ∙ c.in-At.is)) _ _ c.build_first.ensures
 
-pub returns-in-No : goal.returns-in-No
-returns-in-No c = build-refuses _ _ _ (build-refused _ _ _ (sym c.sheet.ensures ∙ c.in-No.is))
+pub returns-in-Err : goal.returns-in-Err
+returns-in-Err c = build-refuses _ _ _ (build-refused _ _ _ (sym c.sheet.ensures ∙ c.in-No.is))

@@ -8,9 +8,9 @@ use Rattle.answers.proofs.merge.Goals as goal
 pub merge_numbered-requires : goal.merge_numbered-requires
 merge_numbered-requires c = sheet-stands _ _ (sym c.sheet.ensures ∙ c.in-At.is)
 
-pub returns-in-At : goal.returns-in-At
-returns-in-At c =
+pub returns-in-Ok : goal.returns-in-Ok
+returns-in-Ok c =
     merge-same _ _ _ (merge-said _ _ _ _ (sym c.sheet.ensures ∙ c.in-At.is)) _ _ c.merge_numbered.ensures
 
-pub returns-in-No : goal.returns-in-No
-returns-in-No c = merge-refuses _ _ _ (merge-refused _ _ _ _ (sym c.sheet.ensures ∙ c.in-No.is))
+pub returns-in-Err : goal.returns-in-Err
+returns-in-Err c = merge-refuses _ _ _ (merge-refused _ _ _ _ (sym c.sheet.ensures ∙ c.in-No.is))

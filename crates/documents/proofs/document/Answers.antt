@@ -38,9 +38,9 @@ returns-in-No-nodes c =
     )
     (search picks depth 15)
 
-pub returns-in-No : goal.returns-in-No
+pub returns-in-Err : goal.returns-in-Err
 unfolding document_section and_then
-returns-in-No c =
+returns-in-Err c =
     rw (
       ← c.byte_at-k.ensures.0,
       ← c.byte_at-n.ensures.0,

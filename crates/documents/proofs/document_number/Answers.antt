@@ -4,10 +4,10 @@ use mathlib.Core.Path.{sym, ◌∙◌, ap}
 use Rattle.documents.specs.DocumentJudged.{document_number_lem}
 use Rattle.documents.proofs.document_number.Goals as goal
 
-pub returns-in-At : goal.returns-in-At
+pub returns-in-Ok : goal.returns-in-Ok
 unfolding number_at
-returns-in-At c = ap number_at (sym c.in-At.is ∙ c.sheet_and_document.ensures) ∙ document_number_lem _ _
+returns-in-Ok c = ap number_at (sym c.in-At.is ∙ c.sheet_and_document.ensures) ∙ document_number_lem _ _
 
-pub returns-in-No : goal.returns-in-No
+pub returns-in-Err : goal.returns-in-Err
 unfolding number_at
-returns-in-No c = ap number_at (sym c.in-No.is ∙ c.sheet_and_document.ensures) ∙ document_number_lem _ _
+returns-in-Err c = ap number_at (sym c.in-No.is ∙ c.sheet_and_document.ensures) ∙ document_number_lem _ _

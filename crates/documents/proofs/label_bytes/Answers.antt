@@ -18,10 +18,10 @@ returns-then-i-k-2 c =
     rw (c.text_at-then-i-k-2.ensures, c.after_labels-then-i-k-2.ensures.0, c.byte_at-k.ensures.0)
     (part_of_document _ _ _ _ (sym c.sheet_and_document.ensures ∙ c.in-At.is) (omega arith) (omega arith))
 
-pub returns-in-At : goal.returns-in-At
-returns-in-At c =
+pub returns-in-Ok : goal.returns-in-Ok
+returns-in-Ok c =
     part_over _ _ _ _ (sym c.sheet_and_document.ensures ∙ c.in-At.is) (omega arith) (omega arith)
 
-pub returns-in-No : goal.returns-in-No
-returns-in-No c =
+pub returns-in-Err : goal.returns-in-Err
+returns-in-Err c =
     part_refused _ _ _ _ (sym c.sheet_and_document.ensures ∙ c.in-No.is)

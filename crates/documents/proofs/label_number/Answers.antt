@@ -16,5 +16,5 @@ pub returns-else-all-n : goal.returns-else-all-n
 returns-else-all-n c =
     number_there _ _ _ _ (sym c.sheet_and_document.ensures ∙ c.in-At.is) (omega arith) (omega arith)
 
-pub returns-in-No : goal.returns-in-No
-returns-in-No c = number-refused _ _ _ _ (sym c.sheet_and_document.ensures ∙ c.in-No.is)
+pub returns-in-Err : goal.returns-in-Err
+returns-in-Err c = number-refused _ _ _ _ (sym c.sheet_and_document.ensures ∙ c.in-No.is)

@@ -3,10 +3,10 @@ use Rattle.base.specs.Loops.{and_then}
 use Rattle.documents.specs.DocumentJudged.{sheet_document_place}
 use Rattle.documents.proofs.sheet_and_document.Goals as goal
 
-pub returns-in-At : goal.returns-in-At
+pub returns-in-Ok : goal.returns-in-Ok
 unfolding sheet_document_place and_then
-returns-in-At c = rw (← c.sheet.ensures, c.in-At.is) c.document.ensures
+returns-in-Ok c = rw (← c.sheet.ensures, c.in-At.is) c.document.ensures
 
-pub returns-in-No : goal.returns-in-No
+pub returns-in-Err : goal.returns-in-Err
 unfolding sheet_document_place and_then
-returns-in-No c = rw (← c.sheet.ensures, c.in-No.is)
+returns-in-Err c = rw (← c.sheet.ensures, c.in-No.is)

@@ -15,5 +15,5 @@ pub returns-else-is_fair : goal.returns-else-is_fair
 returns-else-is_fair c =
     place-not_fair _ _ (sym c.sheet_and_table.ensures ∙ c.in-At.is) c.is_fair.ensures c.if-is_fair.false
 
-pub returns-in-No : goal.returns-in-No
-returns-in-No c = place-refused _ _ (sym c.sheet_and_table.ensures ∙ c.in-No.is)
+pub returns-in-Err : goal.returns-in-Err
+returns-in-Err c = place-refused _ _ (sym c.sheet_and_table.ensures ∙ c.in-No.is)

@@ -4,24 +4,24 @@ use native.Mathlib.Nat.{sub-zero}
 use native.Mathlib.Omega.{arith}
 use Rattle.labels.proofs.occurs.Goals as goal
 
-pub loop-i-init : goal.loop-i-init
-loop-i-init c = rw sub-zero
+pub loop-init : goal.loop-init
+loop-init c = rw sub-zero
 
 pub returns-then-same_label : goal.returns-then-same_label
 unfolding texts_at
 returns-then-same_label c =
-    let l = c.loop-i in
+    let l = c.loop in
     let same = rw c.text_at.ensures at c.same_label.ensures in
-    some-hits _ _ _ _ l.i l.x _ _ (omega arith) c.if-same_label.true same l.invariant
+    some-hits _ _ _ _ l.counter l.x _ _ (omega arith) c.if-same_label.true same l.invariant
 
-pub loop-i-preserved : goal.loop-i-preserved
-loop-i-preserved c =
-    let l = c.loop-i in
+pub loop-preserved : goal.loop-preserved
+loop-preserved c =
+    let l = c.loop in
     let same = rw c.text_at.ensures at c.same_label.ensures in
-    some-goes_on _ _ _ _ l.i l.x _ _ _ (omega arith) c.if-same_label.false same c.after_label-x.ensures.0 l.invariant
+    some-goes_on _ _ _ _ l.counter l.x _ _ _ (omega arith) c.if-same_label.false same c.after_label-x.ensures.0 l.invariant
 
 pub returns : goal.returns
 unfolding texts_at
 returns c =
-    let l = c.loop-i in
-    some-ends _ _ _ _ l.i l.x _ (omega arith) l.invariant
+    let l = c.loop in
+    some-ends _ _ _ _ l.counter l.x _ (omega arith) l.invariant

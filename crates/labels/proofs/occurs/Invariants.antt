@@ -1,5 +1,5 @@
 -- `labels::occurs` meets its contract.
--- The invariant: what is left from here gives what all gives from the start; the measure: what is left.
+-- The invariant: what is left from here gives what all gives from the start.
 use mathlib.Core.Path.{◌≡◌}
 use Prim.Native.Nat.{◌-◌}
 use Rattle.base.specs.Standing.{standing}
@@ -8,8 +8,5 @@ use Rattle.base.specs.Lists.{some}
 use Rattle.labels.specs.LabelPlaces.{text_at, after_label}
 use Rattle.labels.proofs.occurs.Given as goal
 
-abbrev pub invariant-loop-i : goal.invariant-loop-i
-invariant-loop-i l = some (same_label l.text) (standing (text_at l.s) (after_label l.s) l.x (l.n - l.i)) ≡ some (same_label l.text) (standing (text_at l.s) (after_label l.s) l.p l.n)
-
-abbrev pub decreases-loop-i : goal.decreases-loop-i
-decreases-loop-i l = l.n - l.i
+abbrev pub invariant-loop : goal.invariant-loop
+invariant-loop l = some (same_label l.text) (standing (text_at l.s) (after_label l.s) l.x (l.n - l.counter)) ≡ some (same_label l.text) (standing (text_at l.s) (after_label l.s) l.p l.n)

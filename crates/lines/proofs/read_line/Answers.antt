@@ -8,10 +8,10 @@ pub read_judged-requires : goal.read_judged-requires
 read_judged-requires c =
     sheet-stands _ _ (sym c.sheet.ensures ∙ c.in-At.is)
 
-pub returns-in-At : goal.returns-in-At
-returns-in-At c =
+pub returns-in-Ok : goal.returns-in-Ok
+returns-in-Ok c =
     line-said _ _ _ _ (sym c.sheet.ensures ∙ c.in-At.is) _ _ c.read_judged.ensures
 
-pub returns-in-No : goal.returns-in-No
-returns-in-No c =
+pub returns-in-Err : goal.returns-in-Err
+returns-in-Err c =
     line_refused _ _ _ _ (sym c.sheet.ensures ∙ c.in-No.is)

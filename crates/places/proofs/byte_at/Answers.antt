@@ -10,5 +10,5 @@ overflow_cast-result c = omega (arith, c.shared_slice_known-1.given c.args.i)
 pub returns-then-i-s : goal.returns-then-i-s
 returns-then-i-s c = (refl, omega (arith, c.shared_slice_known-1.given c.args.i))
 
-pub returns : goal.returns
-returns c = (sym (get_or-eq_default c.args.s.now 0 c.if-i-s.false), omega arith)
+pub returns-else-i-s : goal.returns-else-i-s
+returns-else-i-s c = (sym (get_or-eq_default c.args.s.now 0 c.if-i-s.false), omega arith)

@@ -1,43 +1,52 @@
 -- `reading::sheet` meets its contract.
-use Rattle.base.specs.Choice.{picks}
+use Rattle.std.proofs.lemmas.Result.{err_from_is_err_and}
+use Rattle.base.specs.Choice.{pick}
 use Rattle.base.specs.Loops.{and_then}
+use Rattle.std.proofs.Common.{arith, length, lt-ltb, le-ltb}
 use Rattle.reading.specs.SheetSection.{sheet_section, patterns_to_end}
 use Rattle.reading.proofs.sheet.Goals as goal
 
-pub returns-then-s-le0 : goal.returns-then-s-le0
-unfolding sheet_section
-returns-then-s-le0 c = search picks depth 15
+pub returns-then-s-eq0 : goal.returns-then-s-eq0
+unfolding sheet_section pick
+returns-then-s-eq0 c = rw (le-ltb 0 (length c.args.s.now) (omega arith))
 
-pub returns-in-At-patterns : goal.returns-in-At-patterns
-unfolding sheet_section patterns_to_end and_then
-returns-in-At-patterns c =
+pub returns : goal.returns
+unfolding sheet_section patterns_to_end and_then pick
+returns c =
     rw (
+      lt-ltb 0 (length c.args.s.now) (omega arith),
       ← c.byte_at-n.ensures.0,
       ← c.labels.ensures,
-      c.in-At.is,
+      c.in_ok-x.was,
       ← c.patterns.ensures,
-      c.in-At-patterns.is,
+      c.in_ok-y.was,
     )
-    (search picks depth 15)
+    c.end.ensures
 
-pub returns-in-No-patterns : goal.returns-in-No-patterns
-unfolding sheet_section patterns_to_end and_then
-returns-in-No-patterns c =
+pub returns-in_err-y : goal.returns-in_err-y
+unfolding sheet_section patterns_to_end and_then pick
+returns-in_err-y c =
+    let p = err_from_is_err_and c.from_residual-in_err-y.result c.from_residual-in_err-y.ensures.1 in
     rw (
+      p.1,
+      p.2,
+      lt-ltb 0 (length c.args.s.now) (omega arith),
       ← c.byte_at-n.ensures.0,
       ← c.labels.ensures,
-      c.in-At.is,
+      c.in_ok-x.was,
       ← c.patterns.ensures,
-      c.in-No-patterns.is,
+      c.in_err-y.was,
     )
-    (search picks depth 15)
 
-pub returns-in-No : goal.returns-in-No
-unfolding sheet_section and_then
-returns-in-No c =
+pub returns-in_err-x : goal.returns-in_err-x
+unfolding sheet_section and_then pick
+returns-in_err-x c =
+    let p = err_from_is_err_and c.from_residual.result c.from_residual.ensures.1 in
     rw (
+      p.1,
+      p.2,
+      lt-ltb 0 (length c.args.s.now) (omega arith),
       ← c.byte_at-n.ensures.0,
       ← c.labels.ensures,
-      c.in-No.is,
+      c.in_err-x.was,
     )
-    (search picks depth 15)

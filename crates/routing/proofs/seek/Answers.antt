@@ -10,11 +10,11 @@ seek_entries-asked-requires c =
     three_stand _ _ _ judged c.subscriptions_in-subscriptions.ensures c.entries_in-entries.ensures
     c.node_place.ensures.0 c.node_count.ensures.0
 
-pub returns-in-At : goal.returns-in-At
-returns-in-At c =
+pub returns-in-Ok : goal.returns-in-Ok
+returns-in-Ok c =
     let judged = sym c.sheet_table_and_document.ensures ∙ c.in-At.is in
     sought_told _ _ _ judged c.node_place.ensures.0 c.node_count.ensures.0
     c.seek_entries-asked.ensures
 
-pub returns-in-No : goal.returns-in-No
-returns-in-No c = sought_refused _ _ _ (sym c.sheet_table_and_document.ensures ∙ c.in-No.is)
+pub returns-in-Err : goal.returns-in-Err
+returns-in-Err c = sought_refused _ _ _ (sym c.sheet_table_and_document.ensures ∙ c.in-No.is)

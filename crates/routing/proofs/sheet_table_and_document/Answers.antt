@@ -3,10 +3,10 @@ use Rattle.base.specs.Loops.{and_then}
 use Rattle.routing.specs.ThreeJudged.{three_place}
 use Rattle.routing.proofs.sheet_table_and_document.Goals as goal
 
-pub returns-in-At : goal.returns-in-At
+pub returns-in-Ok : goal.returns-in-Ok
 unfolding three_place and_then
-returns-in-At c = rw (← c.fair_table.ensures, c.in-At.is) c.document.ensures
+returns-in-Ok c = rw (← c.fair_table.ensures, c.in-At.is) c.document.ensures
 
-pub returns-in-No : goal.returns-in-No
+pub returns-in-Err : goal.returns-in-Err
 unfolding three_place and_then
-returns-in-No c = rw (← c.fair_table.ensures, c.in-No.is)
+returns-in-Err c = rw (← c.fair_table.ensures, c.in-No.is)

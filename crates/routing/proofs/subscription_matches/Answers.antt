@@ -9,10 +9,10 @@ ask_numbered-requires c =
     let judged = sym c.sheet_and_document.ensures ∙ c.in-At.is in
     sheet-document-stand _ _ _ _ _ judged c.node_place.ensures.0 c.node_count.ensures.0
 
-pub returns-in-At : goal.returns-in-At
-returns-in-At c =
+pub returns-in-Ok : goal.returns-in-Ok
+returns-in-Ok c =
     let judged = sym c.sheet_and_document.ensures ∙ c.in-At.is in
     match_answered _ _ judged c.node_place.ensures.0 c.node_count.ensures.0 _ c.ask_numbered.ensures
 
-pub returns-in-No : goal.returns-in-No
-returns-in-No c = match_refused _ _ _ (sym c.sheet_and_document.ensures ∙ c.in-No.is)
+pub returns-in-Err : goal.returns-in-Err
+returns-in-Err c = match_refused _ _ _ (sym c.sheet_and_document.ensures ∙ c.in-No.is)

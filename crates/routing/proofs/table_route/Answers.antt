@@ -10,11 +10,11 @@ ask_entries-route-requires c =
     three_stand _ _ _ judged c.subscriptions_in-subscriptions.ensures c.entries_in-entries.ensures
     c.node_place.ensures.0 c.node_count.ensures.0
 
-pub returns-in-At : goal.returns-in-At
-returns-in-At c =
+pub returns-in-Ok : goal.returns-in-Ok
+returns-in-Ok c =
     let judged = sym c.sheet_table_and_document.ensures ∙ c.in-At.is in
     table-delivered _ _ _ judged c.node_place.ensures.0 c.node_count.ensures.0
     c.ask_entries-route.ensures
 
-pub returns-in-No : goal.returns-in-No
-returns-in-No c = table-refused _ _ _ (sym c.sheet_table_and_document.ensures ∙ c.in-No.is)
+pub returns-in-Err : goal.returns-in-Err
+returns-in-Err c = table-refused _ _ _ (sym c.sheet_table_and_document.ensures ∙ c.in-No.is)

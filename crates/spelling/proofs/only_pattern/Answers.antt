@@ -3,10 +3,10 @@ use Rattle.base.specs.Loops.{and_then}
 use Rattle.spelling.specs.OnlyPattern.{only_section}
 use Rattle.spelling.proofs.only_pattern.Goals as goal
 
-pub returns-in-At : goal.returns-in-At
+pub returns-in-Ok : goal.returns-in-Ok
 unfolding only_section and_then
-returns-in-At c = rw (← c.pattern.ensures, c.in-At.is) c.end.ensures
+returns-in-Ok c = rw (← c.pattern.ensures, c.in-At.is) c.end.ensures
 
-pub returns-in-No : goal.returns-in-No
+pub returns-in-Err : goal.returns-in-Err
 unfolding only_section and_then
-returns-in-No c = rw (← c.pattern.ensures, c.in-No.is)
+returns-in-Err c = rw (← c.pattern.ensures, c.in-No.is)

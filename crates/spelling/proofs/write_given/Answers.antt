@@ -12,13 +12,13 @@ write_line-requires c = (
   rw c.pattern_at.ensures (only_taken _ _ _ (sym c.only_pattern.ensures ∙ c.in-At.is)).1,
 )
 
-pub returns-in-At : goal.returns-in-At
-returns-in-At c =
+pub returns-in-Ok : goal.returns-in-Ok
+returns-in-Ok c =
     let said = bytes-said _ _ _ c.byte_at.ensures.0 _ (sym c.only_pattern.ensures ∙ c.in-At.is) _ c.pattern_at.ensures in
     gives_same output_answer _ _ _ said _ _ c.write_line.ensures
 
-pub returns-in-No : goal.returns-in-No
+pub returns-in-Err : goal.returns-in-Err
 unfolding output_answer
-returns-in-No c =
+returns-in-Err c =
     gives-refusal output_answer _ _ _
     (bytes-refused _ _ _ c.byte_at.ensures.0 _ (sym c.only_pattern.ensures ∙ c.in-No.is))

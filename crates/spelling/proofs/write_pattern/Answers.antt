@@ -10,11 +10,11 @@ pub write_given-requires : goal.write_given-requires
 write_given-requires c =
     sheet-stands _ _ (sym c.sheet.ensures ∙ c.in-At.is)
 
-pub returns-in-At : goal.returns-in-At
-returns-in-At c =
+pub returns-in-Ok : goal.returns-in-Ok
+returns-in-Ok c =
     gives_same output_answer _ _ _ (pattern_said_lem _ _ _ (sym c.sheet.ensures ∙ c.in-At.is)) _ _ c.write_given.ensures
 
-pub returns-in-No : goal.returns-in-No
+pub returns-in-Err : goal.returns-in-Err
 unfolding output_answer
-returns-in-No c =
+returns-in-Err c =
     gives-refusal output_answer _ _ _ (pattern-refused _ _ _ (sym c.sheet.ensures ∙ c.in-No.is))

@@ -2,8 +2,8 @@ use Rattle.places.specs.ReadingLoop.{reads_on, reads-fault, all_read}
 use native.Mathlib.Omega.{arith}
 use Rattle.tables.proofs.entries_from.Goals as goal
 
-pub returns-in-No : goal.returns-in-No
-returns-in-No c =
+pub returns-in-Err : goal.returns-in-Err
+returns-in-Err c =
     reads-fault c.loop-i.invariant (omega arith) c.entry.ensures c.in-No.is
 
 pub loop-i-preserved : goal.loop-i-preserved

@@ -17,9 +17,9 @@ returns-then-n-gt-MOST_ENTRIES c =
     let over : most_entries < c.byte_at-n.result = omega arith in
     rw (← c.byte_at-n.ensures.0) (search picks depth 15)
 
-pub returns-in-At : goal.returns-in-At
+pub returns-in-Ok : goal.returns-in-Ok
 unfolding table_section and_then
-returns-in-At c =
+returns-in-Ok c =
     rw (
       ← c.byte_at-n.ensures.0,
       ← c.byte_at.ensures.0,
@@ -28,9 +28,9 @@ returns-in-At c =
     )
     (search picks depth 15)
 
-pub returns-in-No : goal.returns-in-No
+pub returns-in-Err : goal.returns-in-Err
 unfolding table_section and_then
-returns-in-No c =
+returns-in-Err c =
     rw (
       ← c.byte_at-n.ensures.0,
       ← c.byte_at.ensures.0,

@@ -1,5 +1,5 @@
 -- `reading::steps::steps` meets its contract.
--- The invariant: k steps are read, and the next one stands at x; the measure: what is left.
+-- The invariant: k steps are read, and the next one stands at x.
 use Prim.Native.Nat.{◌-◌}
 use Rattle.places.specs.ReadingLoop.{ReadSoFar}
 use Rattle.reading.specs.StepSection.{step_place}
@@ -7,6 +7,3 @@ use Rattle.reading.proofs.steps.steps.Given as goal
 
 abbrev pub invariant-loop-k : goal.invariant-loop-k
 invariant-loop-k l = ReadSoFar (step_place l.s l.known l.p) l.n l.p l.k l.x
-
-abbrev pub decreases-loop-k : goal.decreases-loop-k
-decreases-loop-k l = l.n - l.k
