@@ -61,7 +61,7 @@ module _ (s d : List ℕ) (n : ℕ) where
   number_over x h a b = sym (both_read s d _ _ x h ∙ rw (labels-counted, le-leb 1 n a, lt-leb n (get_or s 0 0 + get_or d 0 0) b))
 
   -- a refusal gives its own number
-  pub number-refused : (m : Refusal) → sheet_document_place s d ≡ Err m → m ≡ label_number s d n
+  pub number-refused : (m : Refusal) → sheet_document_place s d ≡ Err m → refusal_number m ≡ label_number s d n
   unfolding label_number
   number-refused m h = sym (both_refused s d _ _ m h)
 

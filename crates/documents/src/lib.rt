@@ -5,16 +5,14 @@
 ghost use Rattle.std.specs.Prelude.{◌≡◌, ◌+◌, ◌<◌};
 ghost use Rattle.base.specs.Loops.{run};
 ghost use Rattle.meaning.specs.Sections.{node_parent};
+ghost use Rattle.meaning.specs.Numbers.{number_given};
 ghost use Rattle.meaning.specs.Calls.{document_number, label_number, label_part};
 ghost use Rattle.places.specs.Bytes.{pair_at};
 ghost use Rattle.documents.specs.DocumentSection.{node_label, node_place, nodes_place, document_place, node_count_at};
 ghost use Rattle.documents.specs.DocumentJudged.{sheet_document_place};
 
-use base::Cur;
 use labels::{after_labels, labels, text_at};
-use meaning::{
-    COUNT_OUTSIDE, DONE, ENDS_EARLY, LABEL_OUTSIDE, MOST_LABELS, MOST_NODES, NOT_THERE, PARENT_RULE,
-};
+use meaning::{MOST_LABELS, MOST_NODES, Refusal};
 use places::{byte_at, end, pair_at};
 use reading::sheet;
 
@@ -32,120 +30,103 @@ fn node_parent(k: usize, p: usize) -> bool
 }
 
 // The last byte of a node, its label.
-fn node_label(d: &[u8], known: usize, x: usize) -> Cur
+fn node_label(d: &[u8], known: usize, x: usize) -> Result<usize, Refusal>
     ensures { result ≡ node_label d.now known x }
 {
     if d.len() <= x {
-        return Cur::No(ENDS_EARLY);
+        return Err(Refusal::EndsEarly);
     }
     let label = byte_at(d, x);
     if label < 1 {
-        return Cur::No(LABEL_OUTSIDE);
+        return Err(Refusal::LabelOutside);
     }
     if known < label {
-        return Cur::No(LABEL_OUTSIDE);
+        return Err(Refusal::LabelOutside);
     }
-    Cur::At(x + 1)
+    Ok(x + 1)
 }
 
 // A node at x, after i others, with so many labels.
-fn node(d: &[u8], known: usize, i: usize, x: usize) -> Cur
+fn node(d: &[u8], known: usize, i: usize, x: usize) -> Result<usize, Refusal>
     requires { i < 65536 }
     ensures { result ≡ node_place d.now known i x }
 {
     if d.len() <= x {
-        return Cur::No(ENDS_EARLY);
+        return Err(Refusal::EndsEarly);
     }
     if d.len() <= x + 1 {
-        return Cur::No(ENDS_EARLY);
+        return Err(Refusal::EndsEarly);
     }
     let parent = pair_at(d, x);
     if node_parent(i + 1, parent) {
         return node_label(d, known, x + 2);
     }
-    Cur::No(PARENT_RULE)
+    Err(Refusal::ParentRule)
 }
 
 // The n nodes from the place p on, with so many labels.
-fn nodes_from(d: &[u8], known: usize, p: usize, n: usize) -> Cur
+fn nodes_from(d: &[u8], known: usize, p: usize, n: usize) -> Result<usize, Refusal>
     requires { n < 65536 }
     ensures { result ≡ run (node_place d.now known) n 0 p }
 {
-    let mut i = 0;
     let mut x = p;
-    while i < n {
-        match node(d, known, i, x) {
-            Cur::At(y) => {
-                x = y;
-            }
-            Cur::No(m) => {
-                return Cur::No(m);
-            }
-        }
-        i += 1;
+    for i in 0..n {
+        x = node(d, known, i, x)?;
     }
-    Cur::At(x)
+    Ok(x)
 }
 
 // The nodes of a document, from their count on.
-fn nodes(d: &[u8], known: usize, x: usize) -> Cur
+fn nodes(d: &[u8], known: usize, x: usize) -> Result<usize, Refusal>
     ensures { result ≡ nodes_place d.now known x }
 {
     if d.len() <= x {
-        return Cur::No(ENDS_EARLY);
+        return Err(Refusal::EndsEarly);
     }
     if d.len() <= x + 1 {
-        return Cur::No(ENDS_EARLY);
+        return Err(Refusal::EndsEarly);
     }
     let n = pair_at(d, x);
     if n < 1 {
-        return Cur::No(COUNT_OUTSIDE);
+        return Err(Refusal::CountOutside);
     }
     if MOST_NODES < n {
-        return Cur::No(COUNT_OUTSIDE);
+        return Err(Refusal::CountOutside);
     }
     nodes_from(d, known, x + 2, n)
 }
 
 // Where a document ends, beside a sheet that was judged, or its first fault.
-pub fn document(s: &[u8], d: &[u8]) -> Cur
+pub fn document(s: &[u8], d: &[u8]) -> Result<usize, Refusal>
     ensures { result ≡ document_place s.now d.now }
 {
-    if d.len() <= 0 {
-        return Cur::No(ENDS_EARLY);
+    if d.len() == 0 {
+        return Err(Refusal::EndsEarly);
     }
     let k = byte_at(s, 0);
     let n = byte_at(d, 0);
     if MOST_LABELS < k + n {
-        return Cur::No(COUNT_OUTSIDE);
+        return Err(Refusal::CountOutside);
     }
-    match labels(s, k, d, 1, n) {
-        Cur::At(x) => match nodes(d, k + n, x) {
-            Cur::At(y) => end(d, y),
-            Cur::No(m) => Cur::No(m),
-        },
-        Cur::No(m) => Cur::No(m),
-    }
+    let x = labels(s, k, d, 1, n)?;
+    let y = nodes(d, k + n, x)?;
+    end(d, y)
 }
 
 // The sheet first, then the document.
-pub fn sheet_and_document(s: &[u8], d: &[u8]) -> Cur
+pub fn sheet_and_document(s: &[u8], d: &[u8]) -> Result<usize, Refusal>
     ensures { result ≡ sheet_document_place s.now d.now }
 {
-    match sheet(s) {
-        Cur::At(x) => document(s, d),
-        Cur::No(m) => Cur::No(m),
-    }
+    sheet(s)?;
+    document(s, d)
 }
 
-// The number of a document beside a sheet: 0 where both are sound.
-pub fn document_number(s: &[u8], d: &[u8]) -> u8
-    ensures { result ≡ document_number s.now d.now }
+// Is a document beside a sheet sound, and the sheet?
+pub fn document_check(s: &[u8], d: &[u8]) -> Result<(), Refusal>
+    ensures { number_given result ≡ document_number s.now d.now }
 {
-    match sheet_and_document(s, d) {
-        Cur::At(x) => DONE,
-        Cur::No(m) => m,
-    }
+    sheet_and_document(s, d)?;
+    Ok(())
 }
 
 // Where the first node of a document stands.
@@ -162,23 +143,19 @@ pub fn node_count(d: &[u8]) -> usize
     pair_at(d, after_labels(d, 1, byte_at(d, 0)))
 }
 
-// The number for a label asked for: 0 where there is such a label.
-pub fn label_number(s: &[u8], d: &[u8], n: u64) -> u8
-    ensures { result ≡ label_number s.now d.now n }
+// Is there a label with this number?
+pub fn label_check(s: &[u8], d: &[u8], n: u64) -> Result<(), Refusal>
+    ensures { number_given result ≡ label_number s.now d.now n }
 {
-    match sheet_and_document(s, d) {
-        Cur::At(x) => {
-            if n < 1 {
-                return NOT_THERE;
-            }
-            let all = byte_at(s, 0) + byte_at(d, 0);
-            if (all as u64) < n {
-                return NOT_THERE;
-            }
-            DONE
-        }
-        Cur::No(m) => m,
+    sheet_and_document(s, d)?;
+    if n < 1 {
+        return Err(Refusal::NotThere);
     }
+    let all = byte_at(s, 0) + byte_at(d, 0);
+    if (all as u64) < n {
+        return Err(Refusal::NotThere);
+    }
+    Ok(())
 }
 
 // The bytes of a label: the part itself of the sheet's section or of the document's, without its length byte; empty on a
@@ -187,7 +164,7 @@ pub fn label_bytes<'a>(s: &'a [u8], d: &'a [u8], n: u64) -> &'a [u8]
     ensures { result.now ≡ label_part s.now d.now n }
 {
     match sheet_and_document(s, d) {
-        Cur::At(x) => {
+        Ok(_) => {
             if n < 1 {
                 return &s[..0];
             }
@@ -199,10 +176,8 @@ pub fn label_bytes<'a>(s: &'a [u8], d: &'a [u8], n: u64) -> &'a [u8]
             if i - k <= byte_at(d, 0) {
                 return text_at(d, after_labels(d, 1, i - k - 1));
             }
-            return &s[..0];
+            &s[..0]
         }
-        Cur::No(m) => {
-            return &s[..0];
-        }
+        Err(_) => &s[..0],
     }
 }

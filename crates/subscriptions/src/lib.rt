@@ -43,12 +43,8 @@ fn steps_at(s: &[u8], p: usize, n: usize) -> [Step; MOST_STEPS]
         axis: 0,
         label: 0,
     }; MOST_STEPS];
-    let mut i = 0;
-    let mut x = p;
-    while i < n {
-        steps[i] = step_at(s, x);
-        x += 3;
-        i += 1;
+    for i in 0..n {
+        steps[i] = step_at(s, p + 3 * i);
     }
     steps
 }
@@ -87,12 +83,10 @@ fn pattern_places(s: &[u8], p: usize) -> [usize; MOST_PATTERNS]
     ensures { result ≡ pattern_places s.now p most_patterns }
 {
     let mut places = [0; MOST_PATTERNS];
-    let mut i = 0;
     let mut x = p;
-    while i < MOST_PATTERNS {
+    for i in 0..MOST_PATTERNS {
         places[i] = x;
         x = after_pattern(s, x);
-        i += 1;
     }
     places
 }

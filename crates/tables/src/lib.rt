@@ -9,8 +9,7 @@ ghost use Rattle.tables.specs.TableSection.{entry_place, entry_section, table_pl
 ghost use Rattle.places.specs.InTurn.{each_place};
 ghost use Rattle.meaning.specs.Numbers.{most_entries};
 
-use base::Cur;
-use meaning::{COUNT_OUTSIDE, ENDS_EARLY, MOST_ENTRIES};
+use meaning::{MOST_ENTRIES, Refusal};
 use places::{byte_at, end, pair_at, within};
 use reading::patterns::pattern;
 use reading::sheet;
@@ -49,60 +48,47 @@ pub fn members_at(t: &[u8], x: usize) -> u64
 }
 
 // An entry at x, with so many labels.
-fn entry(t: &[u8], known: usize, x: usize) -> Cur
+fn entry(t: &[u8], known: usize, x: usize) -> Result<usize, Refusal>
     ensures { result ≡ entry_place t.now known x }
 {
     if enough(t, x, 8) {
         return pattern(t, known, x + 8);
     }
-    Cur::No(ENDS_EARLY)
+    Err(Refusal::EndsEarly)
 }
 
 // The n entries from the place p on, with so many labels.
-fn entries_from(t: &[u8], known: usize, p: usize, n: usize) -> Cur
+fn entries_from(t: &[u8], known: usize, p: usize, n: usize) -> Result<usize, Refusal>
     ensures { result ≡ run (each_place (entry_section t.now known)) n 0 p }
 {
-    let mut i = 0;
     let mut x = p;
-    while i < n {
-        match entry(t, known, x) {
-            Cur::At(y) => {
-                x = y;
-            }
-            Cur::No(m) => {
-                return Cur::No(m);
-            }
-        }
-        i += 1;
+    for i in 0..n {
+        x = entry(t, known, x)?;
     }
-    Cur::At(x)
+    Ok(x)
 }
 
 // Where a table ends, beside a sheet that was judged, or its first fault.
-fn table(s: &[u8], t: &[u8]) -> Cur
+fn table(s: &[u8], t: &[u8]) -> Result<usize, Refusal>
     ensures { result ≡ table_place s.now t.now }
 {
-    if t.len() <= 0 {
-        return Cur::No(ENDS_EARLY);
+    if t.len() == 0 {
+        return Err(Refusal::EndsEarly);
     }
     let n = byte_at(t, 0);
     if MOST_ENTRIES < n {
-        return Cur::No(COUNT_OUTSIDE);
+        return Err(Refusal::CountOutside);
     }
-    match entries_from(t, byte_at(s, 0), 1, n) {
-        Cur::At(y) => end(t, y),
-        Cur::No(m) => Cur::No(m),
-    }
+    let y = entries_from(t, byte_at(s, 0), 1, n)?;
+    end(t, y)
 }
 
 // The sheet first, then the table.
-pub fn sheet_and_table(s: &[u8], t: &[u8]) -> Cur
+pub fn sheet_and_table(s: &[u8], t: &[u8]) -> Result<usize, Refusal>
     ensures { result ≡ sheet_table_place s.now t.now }
 {
-    match sheet(s) {
-        Cur::At(x) => table(s, t),
-        Cur::No(m) => Cur::No(m),
-    }
+    sheet(s)?;
+    table(s, t)
 }
 
 // The entry at x by value.
@@ -127,12 +113,10 @@ fn entry_places(t: &[u8]) -> [usize; MOST_ENTRIES]
     ensures { result ≡ entry_places t.now 1 most_entries }
 {
     let mut places = [0; MOST_ENTRIES];
-    let mut i = 0;
     let mut x = 1;
-    while i < MOST_ENTRIES {
+    for i in 0..MOST_ENTRIES {
         places[i] = x;
         x = after_pattern(t, x + 8);
-        i += 1;
     }
     places
 }

@@ -1,14 +1,16 @@
+use Rattle.std.proofs.lemmas.Result.{err_from_is_err_and}
 use Rattle.places.specs.ReadingLoop.{reads_on, reads-fault, all_read}
 use native.Mathlib.Omega.{arith}
 use Rattle.documents.proofs.nodes_from.Goals as goal
 
-pub returns-in-Err : goal.returns-in-Err
-returns-in-Err c =
-    reads-fault c.loop-i.invariant (omega arith) c.node.ensures c.in-No.is
+pub returns-in_err-x : goal.returns-in_err-x
+returns-in_err-x c =
+    let p = err_from_is_err_and c.from_residual.result c.from_residual.ensures.1 in
+    rw (p.1, p.2) (reads-fault c.loop-i.invariant (omega arith) c.node.ensures c.in_err-x.was)
 
 pub loop-i-preserved : goal.loop-i-preserved
 loop-i-preserved c =
-    reads_on c.loop-i.invariant (omega arith) c.node.ensures c.in-At.is
+    reads_on c.loop-i.invariant (omega arith) c.node.ensures c.in_ok-x.was
 
 pub returns : goal.returns
 returns c = all_read c.loop-i.invariant (omega arith)

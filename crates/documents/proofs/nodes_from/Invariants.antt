@@ -1,5 +1,5 @@
 -- `documents::nodes_from` meets its contract.
--- The invariant: i nodes are read, and the next one stands at x; the measure: what is left.
+-- The invariant: i nodes are read, and the next one stands at x.
 use Prim.Native.Nat.{◌-◌}
 use Rattle.places.specs.ReadingLoop.{ReadSoFar}
 use Rattle.documents.specs.DocumentSection.{node_place}
@@ -7,6 +7,3 @@ use Rattle.documents.proofs.nodes_from.Given as goal
 
 abbrev pub invariant-loop-i : goal.invariant-loop-i
 invariant-loop-i l = ReadSoFar (node_place l.d l.known) l.n l.p l.i l.x
-
-abbrev pub decreases-loop-i : goal.decreases-loop-i
-decreases-loop-i l = l.n - l.i

@@ -1,5 +1,5 @@
 -- `tables::entries_from` meets its contract.
--- The invariant: i entries are read, and the next one stands at x; the measure: what is left.
+-- The invariant: i entries are read, and the next one stands at x.
 use Prim.Native.Nat.{◌-◌}
 use Rattle.places.specs.ReadingLoop.{ReadSoFar}
 use Rattle.places.specs.InTurn.{each_place}
@@ -8,6 +8,3 @@ use Rattle.tables.proofs.entries_from.Given as goal
 
 abbrev pub invariant-loop-i : goal.invariant-loop-i
 invariant-loop-i l = ReadSoFar (each_place (entry_section l.t l.known)) l.n l.p l.i l.x
-
-abbrev pub decreases-loop-i : goal.decreases-loop-i
-decreases-loop-i l = l.n - l.i

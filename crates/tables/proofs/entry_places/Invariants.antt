@@ -1,5 +1,5 @@
 -- `tables::entry_places` meets its contract.
--- The invariant: what is filled is what stands there, and x is where the next one stands; the measure: what is left.
+-- The invariant: what is filled is what stands there, and x is where the next one stands.
 use Rattle.subscriptions.specs.Taken.{itself}
 use lib.ListN.{length}
 use mathlib.Core.Path.{◌≡◌}
@@ -10,7 +10,4 @@ use Rattle.meaning.specs.Numbers.{most_entries}
 use Rattle.tables.proofs.entry_places.Given as goal
 
 abbrev pub invariant-loop-i : goal.invariant-loop-i
-invariant-loop-i l = (length l.places ≡ most_entries) × (l.i ≤ most_entries) × (l.x ≤ 1 + 774 * l.i) × FilledUpTo itself (after_entry l.t) 1 l.places l.i l.x
-
-abbrev pub decreases-loop-i : goal.decreases-loop-i
-decreases-loop-i l = most_entries - l.i
+invariant-loop-i l = (length l.places ≡ most_entries) × (l.x ≤ 1 + 774 * l.i) × FilledUpTo itself (after_entry l.t) 1 l.places l.i l.x
