@@ -10,7 +10,7 @@ ghost use Rattle.subscriptions.specs.Subscribed.{SubscriptionsStand};
 ghost use Rattle.answers.specs.Says.{build_says};
 
 use building::build;
-use meaning::{Built, MOST_ENTRIES, NO_ROOM};
+use meaning::{Built, MOST_ENTRIES, Refusal};
 use members::alone;
 use shapes::{Entry, Table, no_steps};
 use subscriptions::{Subscriptions, numbered, subscriptions_in};
@@ -41,8 +41,7 @@ pub fn first_entries(s: &[u8], v: Subscriptions) -> Table
         count: 0,
         entries: [empty; MOST_ENTRIES],
     };
-    let mut i = 0;
-    while i < v.count {
+    for i in 0..v.count {
         let p = numbered(s, v, i);
         t = with_entry(
             t,
@@ -51,13 +50,12 @@ pub fn first_entries(s: &[u8], v: Subscriptions) -> Table
                 pattern: p,
             },
         );
-        i += 1;
     }
     t
 }
 
 // Writes the table that is built for a limit from a sheet that was judged.
-pub fn build_first(s: &[u8], limit: u16, out: &mut [u8]) -> Built
+pub fn build_first(s: &[u8], limit: u16, out: &mut [u8]) -> Result<Built, Refusal>
     requires { SheetStands s.now }
     ensures { (result ≡ build_answer (with_room out.old (build_says (sheet_at s.now) limit)))
         × (out.new ≡ after out.old (with_room out.old (build_says (sheet_at s.now) limit))) }
@@ -66,10 +64,10 @@ pub fn build_first(s: &[u8], limit: u16, out: &mut [u8]) -> Built
     let made = build(limit, first_entries(s, v));
     let t = made.table;
     if write_table(out, t) {
-        return Built::Wrote {
+        return Ok(Built {
             length: table_length(t),
             rounds: made.rounds,
-        };
+        });
     }
-    Built::Refused(NO_ROOM)
+    Err(Refusal::NoRoom)
 }

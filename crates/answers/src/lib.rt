@@ -11,38 +11,31 @@ ghost use Rattle.meaning.specs.Calls.{covers_answer, with_room, after, merge_wri
 use crate::built::build_first;
 use crate::covered::covers_numbered;
 use crate::merged::merge_numbered;
-use base::Cur;
-use meaning::{Asked, Built, Merged};
+use meaning::{Built, Merged, Refusal};
 use reading::sheet;
 
 // Does subscription i cover subscription j?
-pub fn covers(s: &[u8], i: u64, j: u64) -> Asked
+pub fn covers(s: &[u8], i: u64, j: u64) -> Result<bool, Refusal>
     ensures { result ≡ covers_answer s.now i j }
 {
-    match sheet(s) {
-        Cur::At(x) => covers_numbered(s, i, j),
-        Cur::No(n) => Asked::Refused(n),
-    }
+    sheet(s)?;
+    covers_numbered(s, i, j)
 }
 
 // The merge of subscription i with subscription j: a step count and the steps, written from the start of the output.
-pub fn merge(s: &[u8], i: u64, j: u64, out: &mut [u8]) -> Merged
+pub fn merge(s: &[u8], i: u64, j: u64, out: &mut [u8]) -> Result<Merged, Refusal>
     ensures { (result ≡ merge_answer (with_room out.old (merge_writing s.now i j)))
         × (out.new ≡ after out.old (with_room out.old (merge_writing s.now i j))) }
 {
-    match sheet(s) {
-        Cur::At(x) => merge_numbered(s, i, j, out),
-        Cur::No(n) => Merged::Refused(n),
-    }
+    sheet(s)?;
+    merge_numbered(s, i, j, out)
 }
 
 // The table for a limit, written from the start of the output.
-pub fn build(s: &[u8], limit: u16, out: &mut [u8]) -> Built
+pub fn build(s: &[u8], limit: u16, out: &mut [u8]) -> Result<Built, Refusal>
     ensures { (result ≡ build_answer (with_room out.old (build_writing s.now limit)))
         × (out.new ≡ after out.old (with_room out.old (build_writing s.now limit))) }
 {
-    match sheet(s) {
-        Cur::At(x) => build_first(s, limit, out),
-        Cur::No(n) => Built::Refused(n),
-    }
+    sheet(s)?;
+    build_first(s, limit, out)
 }

@@ -7,30 +7,30 @@ ghost use Rattle.reading.specs.SheetPlaces.{sheet_at};
 ghost use Rattle.reading.specs.SheetJudged.{SheetStands};
 ghost use Rattle.answers.specs.Says.{merge_says, marked_says};
 
-use meaning::{Merged, NO_ROOM, NOT_THERE};
+use meaning::{Merged, Refusal};
 use merging::merge;
 use offering::Marked;
 use subscriptions::{numbered, subscriptions_in};
 use writing::{pattern_length, write_pattern};
 
 // Writes what a merge gave.
-fn write_merge(m: Marked, out: &mut [u8]) -> Merged
+fn write_merge(m: Marked, out: &mut [u8]) -> Result<Merged, Refusal>
     requires { WellFormed m.pattern }
     ensures { (result ≡ merge_answer (with_room out.old (marked_says (pattern_of m.pattern) m.clipped)))
         × (out.new ≡ after out.old (with_room out.old (marked_says (pattern_of m.pattern) m.clipped))) }
 {
     let p = m.pattern;
     if write_pattern(out, p) {
-        return Merged::Wrote {
+        return Ok(Merged {
             length: pattern_length(p),
             clipped: m.clipped,
-        };
+        });
     }
-    Merged::Refused(NO_ROOM)
+    Err(Refusal::NoRoom)
 }
 
 // Writes the merge of subscription i of a sheet that was judged with subscription j.
-pub fn merge_numbered(s: &[u8], i: u64, j: u64, out: &mut [u8]) -> Merged
+pub fn merge_numbered(s: &[u8], i: u64, j: u64, out: &mut [u8]) -> Result<Merged, Refusal>
     requires { SheetStands s.now }
     ensures { (result ≡ merge_answer (with_room out.old (merge_says (sheet_at s.now) i j)))
         × (out.new ≡ after out.old (with_room out.old (merge_says (sheet_at s.now) i j))) }
@@ -38,10 +38,10 @@ pub fn merge_numbered(s: &[u8], i: u64, j: u64, out: &mut [u8]) -> Merged
     let v = subscriptions_in(s);
     let count = v.count as u64;
     if count <= i {
-        return Merged::Refused(NOT_THERE);
+        return Err(Refusal::NotThere);
     }
     if count <= j {
-        return Merged::Refused(NOT_THERE);
+        return Err(Refusal::NotThere);
     }
     let p = numbered(s, v, i as usize);
     let q = numbered(s, v, j as usize);

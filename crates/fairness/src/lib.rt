@@ -4,7 +4,7 @@
 
 ghost use Rattle.std.specs.Prelude.{◌≤◌, ◌<◌, ◌≡◌, length};
 ghost use Rattle.base.specs.Lists.{every};
-ghost use Rattle.meaning.specs.Numbers.{most_entries, most_patterns};
+ghost use Rattle.meaning.specs.Numbers.{number_given, most_entries, most_patterns};
 ghost use Rattle.meaning.specs.Fair.{entries_of, one_that_covers, each_in_one};
 ghost use Rattle.meaning.specs.Calls.{table_number};
 ghost use Rattle.shapes.specs.Shapes.{pattern_of, entry_of, WellFormed};
@@ -18,9 +18,8 @@ ghost use Rattle.fairness.specs.Weighing.{weighed};
 ghost use Rattle.fairness.specs.Each.{is_fit};
 ghost use Rattle.fairness.specs.FairJudged.{fair_at, fair_place};
 
-use base::Cur;
 use covering::covers;
-use meaning::{DONE, MOST_ENTRIES, MOST_PATTERNS, NOT_FAIR};
+use meaning::{MOST_ENTRIES, MOST_PATTERNS, Refusal};
 use members::{is_member, members_fit};
 use shapes::Pattern;
 use subscriptions::{pattern_at, subscriptions_in};
@@ -31,12 +30,10 @@ fn all_fit(t: &[u8], count: usize, places: &[usize; MOST_ENTRIES], n: usize) -> 
     requires { EntriesStand t.now (entries_lent count places.now) × (n ≤ most_patterns) }
     ensures { result ≡ every (is_fit n) (table_at t.now) }
 {
-    let mut j = 0;
-    while j < count {
+    for j in 0..count {
         if !members_fit(members_at(t, places[j]), n) {
             return false;
         }
-        j += 1;
     }
     true
 }
@@ -51,10 +48,8 @@ fn take_members(
     requires { (length members.old ≡ most_entries) × (count ≤ most_entries) }
     ensures { MembersStand t.now (entries_lent count places.now) members.new }
 {
-    let mut j = 0;
-    while j < count {
+    for j in 0..count {
         members[j] = members_at(t, places[j]);
-        j += 1;
     }
 }
 
@@ -91,10 +86,8 @@ fn stands(
     ensures { result ≡ one_that_covers (pattern_of p) (entries_of i (table_at t.now)) }
 {
     let mut found = 0;
-    let mut j = 0;
-    while j < count {
+    for j in 0..count {
         found = weigh(t, places[j], members[j], i, p, found);
-        j += 1;
     }
     found == 1
 }
@@ -113,13 +106,11 @@ fn all_stand(
         × MembersStand t.now (entries_lent entry_count entry_places.now) members.now }
     ensures { result ≡ each_in_one 0 (sheet_at s.now).patterns (table_at t.now) }
 {
-    let mut i = 0;
-    while i < count {
+    for i in 0..count {
         let p = pattern_at(s, places[i]);
         if !stands(t, entry_count, entry_places, members, i, p) {
             return false;
         }
-        i += 1;
     }
     true
 }
@@ -150,26 +141,20 @@ fn is_fair(s: &[u8], t: &[u8]) -> bool
 }
 
 // Where a table ends that passes the table check, the sheet judged first, or the first fault; 12 last.
-pub fn fair_table(s: &[u8], t: &[u8]) -> Cur
+pub fn fair_table(s: &[u8], t: &[u8]) -> Result<usize, Refusal>
     ensures { result ≡ fair_place s.now t.now }
 {
-    match sheet_and_table(s, t) {
-        Cur::At(x) => {
-            if is_fair(s, t) {
-                return Cur::At(x);
-            }
-            Cur::No(NOT_FAIR)
-        }
-        Cur::No(m) => Cur::No(m),
+    let x = sheet_and_table(s, t)?;
+    if is_fair(s, t) {
+        return Ok(x);
     }
+    Err(Refusal::NotFair)
 }
 
-// The number of a table beside a sheet: 0 where it passes the table check.
-pub fn table_number(s: &[u8], t: &[u8]) -> u8
-    ensures { result ≡ table_number s.now t.now }
+// Does a table beside a sheet pass the table check?
+pub fn table_check(s: &[u8], t: &[u8]) -> Result<(), Refusal>
+    ensures { number_given result ≡ table_number s.now t.now }
 {
-    match fair_table(s, t) {
-        Cur::At(x) => DONE,
-        Cur::No(m) => m,
-    }
+    fair_table(s, t)?;
+    Ok(())
 }

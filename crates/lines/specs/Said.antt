@@ -46,9 +46,9 @@ unfoldable pub pattern_said : Bool → Pattern → Writing (Unit {0})
 pattern_said known p = in_order known (leb p.count most_steps) (leb (length (keep is_near_root (steps_in p))) 1) (pattern_bytes (pattern_of p))
 
 -- of a line, with these labels
-abbrev pub LineGives : List (List ℕ) → List ℕ → List ℕ → (Result ℕ LineRefusal) → List ℕ → Type 0
+abbrev pub LineGives : List (List ℕ) → List ℕ → List ℕ → Result ℕ LineRefusal → List ℕ → Type 0
 LineGives ls line out r now =
-    (r ≡ line_judged (read_line line) (lined.Refused NotALine) (λ ds. drawn_answer (with_room out (drawn_writing ls ds))))
+    (r ≡ line_judged (read_line line) (λ at. Err (record { why = NotALine; place = at })) (λ ds. drawn_answer (with_room out (drawn_writing ls ds))))
     × (now ≡ line_judged (read_line line) (λ i. out) (λ ds. after out (with_room out (drawn_writing ls ds))))
 
 -- ---- what was found

@@ -8,25 +8,22 @@ ghost use Rattle.shapes.specs.Shapes.{steps_in, WellFormed};
 ghost use Rattle.writing.specs.Gives.{Gives};
 ghost use Rattle.lines.specs.Said.{pattern_said};
 
-use meaning::{COUNT_OUTSIDE, LABEL_UNKNOWN, Lined, MOST_STEPS, NO_ROOM, SECOND_NEAR, Step};
+use meaning::{LineRefusal, MOST_STEPS, Refusal, Step};
 use shapes::Pattern;
 use writing::{pattern_length, write_pattern};
 
 // A refusal without a place.
-fn refused(number: u8) -> Lined
-    ensures { result ≡ Lined.Refused number 0 }
+fn refused(why: Refusal) -> Result<usize, LineRefusal>
+    ensures { result ≡ Err (record { why = why; place = 0 }) }
 {
-    Lined::Refused { number, place: 0 }
+    Err(why.into())
 }
 
 // A near step with parent 0.
 fn near_root(x: Step) -> bool
     ensures { result ≡ is_near_root x }
 {
-    if x.parent == 0 {
-        return x.axis == 0;
-    }
-    false
+    if x.parent == 0 { x.axis == 0 } else { false }
 }
 
 // How many near steps with parent 0 a pattern has.
@@ -34,12 +31,9 @@ fn near_roots(p: Pattern) -> usize
     requires { WellFormed p }
     ensures { result ≡ length (keep is_near_root (steps_in p)) }
 {
-    let mut n: usize = 0;
-    let mut k = 0;
-    while k < p.count {
-        let x = p.steps[k];
-        k += 1;
-        if near_root(x) {
+    let mut n = 0;
+    for k in 0..p.count {
+        if near_root(p.steps[k]) {
             n += 1;
         }
     }
@@ -47,21 +41,21 @@ fn near_roots(p: Pattern) -> usize
 }
 
 // Writes the steps of a line: first all labels are judged, then the number of steps, the near steps with parent 0, and room.
-pub fn write_drawn(known: bool, p: Pattern, out: &mut [u8]) -> Lined
+pub fn write_drawn(known: bool, p: Pattern, out: &mut [u8]) -> Result<usize, LineRefusal>
     requires { p.count ≤ most_steps → WellFormed p }
     ensures { Gives drawn_answer out.old (pattern_said known p) result out.new }
 {
     if !known {
-        return refused(LABEL_UNKNOWN);
+        return refused(Refusal::LabelUnknown);
     }
     if MOST_STEPS < p.count {
-        return refused(COUNT_OUTSIDE);
+        return refused(Refusal::CountOutside);
     }
     if 1 < near_roots(p) {
-        return refused(SECOND_NEAR);
+        return refused(Refusal::SecondNear);
     }
     if write_pattern(out, p) {
-        return Lined::Wrote(pattern_length(p));
+        return Ok(pattern_length(p));
     }
-    refused(NO_ROOM)
+    refused(Refusal::NoRoom)
 }

@@ -13,35 +13,29 @@ ghost use Rattle.lines.specs.Said.{LineGives};
 
 use crate::drawn::write_drawn;
 use crate::limit::steps_within;
-use base::Cur;
-use meaning::{Lined, NOT_A_LINE};
+use meaning::{LineRefusal, Refusal};
 use reading::sheet;
 
 // A line read beside a sheet that was judged.
-fn read_judged(s: &[u8], line: &[u8], out: &mut [u8]) -> Lined
+fn read_judged(s: &[u8], line: &[u8], out: &mut [u8]) -> Result<usize, LineRefusal>
     requires { SheetStands s.now }
     ensures { LineGives (sheet_at s.now).labels line.now out.old result out.new }
 {
     let f = steps_within(s, line);
     if !f.sound {
-        return Lined::Refused {
-            number: NOT_A_LINE,
+        return Err(LineRefusal {
+            why: Refusal::NotALine,
             place: f.place,
-        };
+        });
     }
     write_drawn(f.known, f.pattern, out)
 }
 
 // A line read with a sheet's labels: a step count and the steps, written from the start of the output.
-pub fn read_line(s: &[u8], line: &[u8], out: &mut [u8]) -> Lined
+pub fn read_line(s: &[u8], line: &[u8], out: &mut [u8]) -> Result<usize, LineRefusal>
     ensures { (result ≡ line_answer out.old s.now line.now)
         × (out.new ≡ line_output out.old s.now line.now) }
 {
-    match sheet(s) {
-        Cur::At(x) => read_judged(s, line, out),
-        Cur::No(n) => Lined::Refused {
-            number: n,
-            place: 0,
-        },
-    }
+    sheet(s)?;
+    read_judged(s, line, out)
 }

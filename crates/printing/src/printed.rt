@@ -8,9 +8,8 @@ ghost use Rattle.texts.specs.PutText.{written, put};
 
 use crate::put_table;
 use answers::built::first_entries;
-use base::Cur;
 use building::build;
-use meaning::ENDS_EARLY;
+use meaning::Refusal;
 use places::pair_at;
 use reading::sheet;
 use subscriptions::subscriptions_in;
@@ -33,12 +32,12 @@ pub fn put_text(input: &[u8], out: &mut [u8]) -> usize
     ensures { written out.new result ≡ put (written out.old 0) (printed input.now) }
 {
     if input.len() < 2 {
-        return put_refused(out, ENDS_EARLY as usize);
+        return put_refused(out, Refusal::EndsEarly.number() as usize);
     }
     let limit = pair_at(input, 0);
     let s = &input[2..];
     match sheet(s) {
-        Cur::At(x) => put_built(s, limit as u16, out),
-        Cur::No(m) => put_refused(out, m as usize),
+        Ok(_) => put_built(s, limit as u16, out),
+        Err(why) => put_refused(out, why.number() as usize),
     }
 }

@@ -1,18 +1,17 @@
 -- The answers of the hub's calls, from what was judged by places.
-use Rattle.std.specs.Prelude.{ℕ, ◌+◌, ◌≡◌, Result, Ok, Err}
+use Rattle.std.specs.Prelude.{ℕ, ◌+◌, ◌≡◌, Bool, Result, Ok, Err}
 use Rattle.std.proofs.Math.Path.{sym, ap}
 use Rattle.std.proofs.Common.{◌∙◌}
 use mathlib.Core.List.{List}
 use Rattle.meaning.specs.Sections.{Sheet, Document, Node, Entry}
 use Rattle.meaning.specs.Routing.{plain_route, table_route, tried}
 use Rattle.meaning.specs.Calls.{matches_answer, plain_answer, table_answer}
-use Rattle.meaning.specs.declared.Tabled.{Tabled}
 use Rattle.shapes.specs.Shapes.{nodes_at}
 use Rattle.places.specs.Bytes.{pair_at}
 use Rattle.reading.specs.SheetPlaces.{sheet_at}
 use Rattle.documents.specs.DocumentSection.{node_count_at, document_at}
 use Rattle.places.specs.Reached.{reached}
-use Rattle.routing.specs.declared.by_table.Route.{Route}
+use Rattle.meaning.specs.declared.Tabled.{Tabled}
 use Rattle.documents.specs.DocumentJudged.{both_judged, sheet_document_place}
 use Rattle.routing.specs.ThreeJudged.{three_place, three_judged_lem}
 use Rattle.routing.specs.Plain.{numbered_answer}
@@ -67,7 +66,7 @@ module _ (s d : List ℕ) where
         ap Ok (r ∙ ap (λ (ns : List Node). plain_route ns (sheet_at s).patterns) (sym nodes_there)) ∙ sym (plain-by_place ∙ rw h)
 
     -- the subscription is answered
-    pub match_answered : (i : ℕ) {a : (Result Bool Refusal)} → a ≡ numbered_answer (nodes_at d at n) (sheet_at s) i → a ≡ matches_answer s d i
+    pub match_answered : (i : ℕ) {a : Result Bool Refusal} → a ≡ numbered_answer (nodes_at d at n) (sheet_at s) i → a ≡ matches_answer s d i
     unfolding reached
     match_answered i r =
         r ∙ ap (λ (ns : List Node). numbered_answer ns (sheet_at s) i) (sym nodes_there) ∙ sym (match_by_place i ∙ rw h)
@@ -75,7 +74,7 @@ module _ (s d : List ℕ) where
 -- ---- the route by a table
 module _ (s t d : List ℕ) where
   abbrev table_says : Sheet → List Entry → Document → Result Tabled Refusal
-  table_says sh es dc = Ok (record { set = (table_route dc.nodes es sh.patterns); tried = (tried dc.nodes es sh.patterns) })
+  table_says sh es dc = Ok (record { set = table_route dc.nodes es sh.patterns; tried = tried dc.nodes es sh.patterns })
 
   -- by the place that was reached
   table-by_place : table_answer s t d ≡ reached (three_place s t d) Err (table_says (sheet_at s) (table_at t) (document_at d))
@@ -88,11 +87,11 @@ module _ (s t d : List ℕ) where
   table-refused h = sym (table-by_place ∙ rw h)
 
   -- the route by the table is delivered
-  pub table-delivered : {y at n : ℕ} {r : Route} → three_place s t d ≡ Ok y → at ≡ node_count_at d + 2 → n ≡ pair_at d (node_count_at d)
-      → r ≡ route_by (nodes_at d at n) (sheet_at s).patterns (table_at t) → Ok (record { set = r.set; tried = r.tried }) ≡ table_answer s t d
+  pub table-delivered : {y at n : ℕ} {r : Tabled} → three_place s t d ≡ Ok y → at ≡ node_count_at d + 2 → n ≡ pair_at d (node_count_at d)
+      → r ≡ route_by (nodes_at d at n) (sheet_at s).patterns (table_at t) → Ok r ≡ table_answer s t d
   unfolding reached document_at
   table-delivered {y} {at} {n} {r} h a b q =
       let ns = nodes_at d at n in
-      let set : r.set ≡ table_route ns (table_at t) (sheet_at s).patterns = ap (λ (u : Route). u.set) q ∙ route-set ns (sheet_at s).patterns (table_at t) in
-      let count : r.tried ≡ tried ns (table_at t) (sheet_at s).patterns = ap (λ (u : Route). u.tried) q ∙ route-tried ns (sheet_at s).patterns (table_at t) in
+      let set : r.set ≡ table_route ns (table_at t) (sheet_at s).patterns = ap (λ (u : Tabled). u.set) q ∙ route-set ns (sheet_at s).patterns (table_at t) in
+      let count : r.tried ≡ tried ns (table_at t) (sheet_at s).patterns = ap (λ (u : Tabled). u.tried) q ∙ route-tried ns (sheet_at s).patterns (table_at t) in
       sym (table-by_place ∙ rw (h, ← a, ← b, ← set, ← count))

@@ -22,7 +22,7 @@ use Rattle.meaning.specs.Routing.{matches_for, delivered_from, table_route}
 use Rattle.laws.specs.MemberBits.{member_none, member_delivery, delivery_lt}
 use Rattle.laws.specs.Marks.{marked, member_marked, marked_lt, same-members}
 use Rattle.laws.specs.Routes.{delivered-long, delivered_at}
-use Rattle.routing.specs.declared.by_table.Route.{Route}
+use Rattle.meaning.specs.declared.Tabled.{Tabled}
 use Rattle.routing.specs.Tabling.{start, one_more, member_tried, ask_member, ask_members, ask_entry, route_by}
 
 module _ (ns : List Node) (ps : List Forest) where
@@ -36,7 +36,7 @@ module _ (ns : List Node) (ps : List Forest) where
   -- ---- the members of the set
 
   -- after one member
-  member_set : (members i j : ℕ) (r : Route) → is_member (ask_member ns ps members i r).set j ≡ (is_member r.set j || marks members j i)
+  member_set : (members i j : ℕ) (r : Tabled) → is_member (ask_member ns ps members i r).set j ≡ (is_member r.set j || marks members j i)
   unfolding ask_member member_tried marks pick
   member_set members i j r = go (is_member members i)
     where
@@ -46,7 +46,7 @@ module _ (ns : List Node) (ps : List Forest) where
       go false = sym (or-false (is_member r.set j))
 
   -- after the k members from i on
-  members-set : (members k i j : ℕ) (r : Route)
+  members-set : (members k i j : ℕ) (r : Tabled)
       → is_member (fold_n (ask_member ns ps members) k i r).set j ≡ (is_member r.set j || some (marks members j) (numbers_from i k))
   unfolding fold_n numbers_from some
   members-set members zero i j r = sym (or-false (is_member r.set j))
@@ -57,7 +57,7 @@ module _ (ns : List Node) (ps : List Forest) where
       ∙ or_assoc (is_member r.set j) (marks members j i) (some (marks members j) (numbers_from (i + 1) k)))
 
   -- after all members
-  all_members-set : (members j : ℕ) (r : Route) → j < length ps
+  all_members-set : (members j : ℕ) (r : Tabled) → j < length ps
       → is_member (ask_members ns ps members r).set j ≡ (is_member r.set j || (is_member members j && own j))
   unfolding ask_members marks
   all_members-set members j r h =
@@ -78,7 +78,7 @@ module _ (ns : List Node) (ps : List Forest) where
           (and_both (own j) (eqb j j) (and_second (is_member members j) (own j) q) (eq-eqb j j refl)))
 
   -- after an entry
-  entry_set : (e : Entry) (j : ℕ) (r : Route) → j < length ps → is_member (ask_entry ns ps e r).set j ≡ (is_member r.set j || (matches_for ns j e && own j))
+  entry_set : (e : Entry) (j : ℕ) (r : Tabled) → j < length ps → is_member (ask_entry ns ps e r).set j ≡ (is_member r.set j || (matches_for ns j e && own j))
   unfolding ask_entry matches_for has_member one_more pick
   entry_set e j r h = go (satisfies ns e.pattern) (all_members-set e.members j (one_more r) h)
     where
@@ -97,7 +97,7 @@ module _ (ns : List Node) (ps : List Forest) where
       go false k = none_so (is_member r.set j) (is_member e.members j) (own j)
 
   -- after entries
-  along-set : (es : List Entry) (j : ℕ) (r : Route) → j < length ps
+  along-set : (es : List Entry) (j : ℕ) (r : Tabled) → j < length ps
       → is_member (fold_along (ask_entry ns ps) es r).set j ≡ (is_member r.set j || (some (matches_for ns j) es && own j))
   unfolding fold_along some
   along-set [] j r h = sym (or-false (is_member r.set j))
@@ -116,7 +116,7 @@ module _ (ns : List Node) (ps : List Forest) where
   -- ---- its bound
 
   -- after one member
-  member_lt : (members i : ℕ) (r : Route) → i < length ps → r.set < 2 ^ length ps → (ask_member ns ps members i r).set < 2 ^ length ps
+  member_lt : (members i : ℕ) (r : Tabled) → i < length ps → r.set < 2 ^ length ps → (ask_member ns ps members i r).set < 2 ^ length ps
   unfolding ask_member member_tried pick
   member_lt members i r h l = go (is_member members i)
     where
@@ -125,13 +125,13 @@ module _ (ns : List Node) (ps : List Forest) where
       go false = l
 
   -- after the k members from i on
-  members_lt : (members k i : ℕ) (r : Route) → i + k ≤ length ps → r.set < 2 ^ length ps → (fold_n (ask_member ns ps members) k i r).set < 2 ^ length ps
+  members_lt : (members k i : ℕ) (r : Tabled) → i + k ≤ length ps → r.set < 2 ^ length ps → (fold_n (ask_member ns ps members) k i r).set < 2 ^ length ps
   unfolding fold_n
   members_lt members zero i r h l = l
   members_lt members (suc k) i r h l = members_lt members k (i + 1) (ask_member ns ps members i r) (omega arith) (member_lt members i r (omega arith) l)
 
   -- after an entry
-  entry_lt : (e : Entry) (r : Route) → r.set < 2 ^ length ps → (ask_entry ns ps e r).set < 2 ^ length ps
+  entry_lt : (e : Entry) (r : Tabled) → r.set < 2 ^ length ps → (ask_entry ns ps e r).set < 2 ^ length ps
   unfolding ask_entry ask_members one_more pick
   entry_lt e r l = go (satisfies ns e.pattern)
     where
@@ -140,7 +140,7 @@ module _ (ns : List Node) (ps : List Forest) where
       go false = l
 
   -- after entries
-  along_lt : (es : List Entry) (r : Route) → r.set < 2 ^ length ps → (fold_along (ask_entry ns ps) es r).set < 2 ^ length ps
+  along_lt : (es : List Entry) (r : Tabled) → r.set < 2 ^ length ps → (fold_along (ask_entry ns ps) es r).set < 2 ^ length ps
   unfolding fold_along
   along_lt [] r l = l
   along_lt (e ∷ es) r l = along_lt es (ask_entry ns ps e r) (entry_lt e r l)

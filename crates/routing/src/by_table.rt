@@ -13,18 +13,11 @@ ghost use Rattle.documents.specs.DocumentJudged.{NodesStand};
 ghost use Rattle.routing.specs.Tabling.{member_try, member_tried, ask_members, ask_entry, route_by};
 
 use matching::{Tried, try_pattern};
-use meaning::{MOST_ENTRIES, MOST_PATTERNS};
+use meaning::{MOST_ENTRIES, MOST_PATTERNS, Tabled};
 use members::{is_member, mark};
 use shapes::Entry;
 use subscriptions::pattern_at;
 use tables::entry_at;
-
-// A route so far: the delivery set, and how many patterns were tried.
-#[derive(Clone, Copy)]
-pub struct Route {
-    pub set: u64,
-    pub tried: usize,
-}
 
 // Subscription i, whose pattern stands at x of the sheet, is tried if it is a member: does it match, and how many were tried
 // with it.
@@ -59,14 +52,14 @@ fn ask_member(
     n: usize,
     members: u64,
     i: usize,
-    route: Route,
-) -> Route
+    route: Tabled,
+) -> Tabled
     requires { (i < most_patterns) × WellFormed (pattern_at s.now x) × NodesStand d.now at n × (route.tried < 2 ^ 32) }
     ensures { result ≡ member_tried members i (satisfies (nodes_at d.now at n) (pattern_of (pattern_at s.now x))) route }
 {
     let asked = try_member(s, x, d, at, n, members, i, route.tried);
     let set = mark(route.set, i, asked.yes);
-    Route {
+    Tabled {
         set,
         tried: asked.tried,
     }
@@ -81,17 +74,15 @@ fn ask_members(
     at: usize,
     n: usize,
     members: u64,
-    route: Route,
-) -> Route
+    route: Tabled,
+) -> Tabled
     requires { SubscriptionsStand s.now (subscriptions_lent count places.now) × NodesStand d.now at n × (route.tried < 2 ^ 31) }
     ensures { result ≡ ask_members (nodes_at d.now at n) (sheet_at s.now).patterns members route }
 {
     let mut so_far = route;
-    let mut i = 0;
-    while i < count {
+    for i in 0..count {
         let x = places[i];
         so_far = ask_member(s, x, d, at, n, members, i, so_far);
-        i += 1;
     }
     so_far
 }
@@ -105,14 +96,14 @@ fn ask_entry(
     at: usize,
     n: usize,
     e: Entry,
-    route: Route,
-) -> Route
+    route: Tabled,
+) -> Tabled
     requires { SubscriptionsStand s.now (subscriptions_lent count places.now) × NodesStand d.now at n × WellFormed e.pattern
         × (route.tried < 2 ^ 30) }
     ensures { result ≡ ask_entry (nodes_at d.now at n) (sheet_at s.now).patterns (entry_of e) route }
 {
     let asked = try_pattern(d, at, n, e.pattern, route.tried);
-    let so_far = Route {
+    let so_far = Tabled {
         set: route.set,
         tried: asked.tried,
     };
@@ -133,17 +124,15 @@ pub fn ask_entries(
     d: &[u8],
     at: usize,
     n: usize,
-) -> Route
+) -> Tabled
     requires { SubscriptionsStand s.now (subscriptions_lent count places.now) × EntriesStand t.now (entries_lent entry_count entry_places.now)
         × NodesStand d.now at n }
     ensures { result ≡ route_by (nodes_at d.now at n) (sheet_at s.now).patterns (table_at t.now) }
 {
-    let mut so_far = Route { set: 0, tried: 0 };
-    let mut j = 0;
-    while j < entry_count {
+    let mut so_far = Tabled { set: 0, tried: 0 };
+    for j in 0..entry_count {
         let e = entry_at(t, entry_places[j]);
         so_far = ask_entry(s, count, places, d, at, n, e, so_far);
-        j += 1;
     }
     so_far
 }

@@ -19,21 +19,13 @@ ghost use Rattle.routing.specs.Sought.{sought_answer};
 
 use crate::by_table::ask_entries;
 use crate::wanting::seek_entries;
-use base::Cur;
 use documents::{document, node_count, node_place, sheet_and_document};
 use fairness::fair_table;
-use matching::matches;
-use meaning::{Asked, NOT_THERE, Routed, Tabled};
+use matching::{Tried, matches};
+use meaning::{Refusal, Tabled};
 use members::mark;
 use subscriptions::{pattern_at, subscriptions_in};
 use tables::entries_in;
-
-// Whether anyone wants a document, and how many patterns were tried until that was known.
-#[derive(Clone, Copy)]
-pub enum Sought {
-    Refused(u8),
-    Told { yes: bool, tried: usize },
-}
 
 // Does the document whose n nodes stand from a place on satisfy the pattern at x of the sheet?
 fn ask(s: &[u8], x: usize, d: &[u8], at: usize, n: usize) -> bool
@@ -50,27 +42,23 @@ fn deliver(s: &[u8], d: &[u8], at: usize, n: usize) -> u64
 {
     let subscriptions = subscriptions_in(s);
     let mut set: u64 = 0;
-    let mut i = 0;
-    while i < subscriptions.count {
+    for i in 0..subscriptions.count {
         let x = subscriptions.places[i];
         set = mark(set, i, ask(s, x, d, at, n));
-        i += 1;
     }
     set
 }
 
 // The plain route.
-pub fn plain_route(s: &[u8], d: &[u8]) -> Routed
+pub fn plain_route(s: &[u8], d: &[u8]) -> Result<u64, Refusal>
     ensures { result ≡ plain_answer s.now d.now }
 {
-    match sheet_and_document(s, d) {
-        Cur::At(x) => Routed::Delivered(deliver(s, d, node_place(d), node_count(d))),
-        Cur::No(m) => Routed::Refused(m),
-    }
+    sheet_and_document(s, d)?;
+    Ok(deliver(s, d, node_place(d), node_count(d)))
 }
 
 // Does the subscription with this number match the document whose n nodes stand from a place on?
-fn ask_numbered(s: &[u8], i: u64, d: &[u8], at: usize, n: usize) -> Asked
+fn ask_numbered(s: &[u8], i: u64, d: &[u8], at: usize, n: usize) -> Result<bool, Refusal>
     requires { SheetStands s.now × NodesStand d.now at n }
     ensures { result ≡ numbered_answer (nodes_at d.now at n) (sheet_at s.now) i }
 {
@@ -78,97 +66,75 @@ fn ask_numbered(s: &[u8], i: u64, d: &[u8], at: usize, n: usize) -> Asked
     let count = subscriptions.count as u64;
     if i < count {
         let x = subscriptions.places[i as usize];
-        return Asked::Said(ask(s, x, d, at, n));
+        return Ok(ask(s, x, d, at, n));
     }
-    Asked::Refused(NOT_THERE)
+    Err(Refusal::NotThere)
 }
 
 // Does the document satisfy the subscription with this number?
-pub fn subscription_matches(s: &[u8], d: &[u8], i: u64) -> Asked
+pub fn subscription_matches(s: &[u8], d: &[u8], i: u64) -> Result<bool, Refusal>
     ensures { result ≡ matches_answer s.now d.now i }
 {
-    match sheet_and_document(s, d) {
-        Cur::At(x) => ask_numbered(s, i, d, node_place(d), node_count(d)),
-        Cur::No(m) => Asked::Refused(m),
-    }
+    sheet_and_document(s, d)?;
+    ask_numbered(s, i, d, node_place(d), node_count(d))
 }
 
 // The sheet first, then the table (12 last), then the document.
-fn sheet_table_and_document(s: &[u8], t: &[u8], d: &[u8]) -> Cur
+fn sheet_table_and_document(s: &[u8], t: &[u8], d: &[u8]) -> Result<usize, Refusal>
     ensures { result ≡ three_place s.now t.now d.now }
 {
-    match fair_table(s, t) {
-        Cur::At(x) => document(s, d),
-        Cur::No(m) => Cur::No(m),
-    }
+    fair_table(s, t)?;
+    document(s, d)
 }
 
 // The route by a table.
-pub fn table_route(s: &[u8], t: &[u8], d: &[u8]) -> Tabled
+pub fn table_route(s: &[u8], t: &[u8], d: &[u8]) -> Result<Tabled, Refusal>
     ensures { result ≡ table_answer s.now t.now d.now }
 {
-    match sheet_table_and_document(s, t, d) {
-        Cur::At(x) => {
-            let subscriptions = subscriptions_in(s);
-            let count = subscriptions.count;
-            let entries = entries_in(t);
-            let entry_count = entries.count;
-            let route = ask_entries(
-                s,
-                count,
-                &subscriptions.places,
-                t,
-                entry_count,
-                &entries.places,
-                d,
-                node_place(d),
-                node_count(d),
-            );
-            Tabled::Delivered {
-                set: route.set,
-                tried: route.tried,
-            }
-        }
-        Cur::No(m) => Tabled::Refused(m),
-    }
+    sheet_table_and_document(s, t, d)?;
+    let subscriptions = subscriptions_in(s);
+    let count = subscriptions.count;
+    let entries = entries_in(t);
+    let entry_count = entries.count;
+    Ok(ask_entries(
+        s,
+        count,
+        &subscriptions.places,
+        t,
+        entry_count,
+        &entries.places,
+        d,
+        node_place(d),
+        node_count(d),
+    ))
 }
 
 // Does at least one shed take the document, and how many patterns were tried until that was known?
-fn seek(s: &[u8], t: &[u8], d: &[u8]) -> Sought
+fn seek(s: &[u8], t: &[u8], d: &[u8]) -> Result<Tried, Refusal>
     ensures { result ≡ sought_answer s.now t.now d.now }
 {
-    match sheet_table_and_document(s, t, d) {
-        Cur::At(x) => {
-            let subscriptions = subscriptions_in(s);
-            let count = subscriptions.count;
-            let entries = entries_in(t);
-            let entry_count = entries.count;
-            let asked = seek_entries(
-                s,
-                count,
-                &subscriptions.places,
-                t,
-                entry_count,
-                &entries.places,
-                d,
-                node_place(d),
-                node_count(d),
-            );
-            Sought::Told {
-                yes: asked.yes,
-                tried: asked.tried,
-            }
-        }
-        Cur::No(m) => Sought::Refused(m),
-    }
+    sheet_table_and_document(s, t, d)?;
+    let subscriptions = subscriptions_in(s);
+    let count = subscriptions.count;
+    let entries = entries_in(t);
+    let entry_count = entries.count;
+    Ok(seek_entries(
+        s,
+        count,
+        &subscriptions.places,
+        t,
+        entry_count,
+        &entries.places,
+        d,
+        node_place(d),
+        node_count(d),
+    ))
 }
 
 // Does at least one shed take the document?
-pub fn wanted(s: &[u8], t: &[u8], d: &[u8]) -> Asked
+pub fn wanted(s: &[u8], t: &[u8], d: &[u8]) -> Result<bool, Refusal>
     ensures { result ≡ wanted_answer s.now t.now d.now }
 {
-    match seek(s, t, d) {
-        Sought::Refused(m) => Asked::Refused(m),
-        Sought::Told { yes, tried } => Asked::Said(yes),
-    }
+    let asked = seek(s, t, d)?;
+    Ok(asked.yes)
 }

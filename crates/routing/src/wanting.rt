@@ -31,15 +31,13 @@ fn seek_members(
     ensures { result ≡ ask_in_turn (members_say (nodes_at d.now at n) (sheet_at s.now).patterns members) tried }
 {
     let mut so_far = tried;
-    let mut i = 0;
-    while i < count {
+    for i in 0..count {
         let x = places[i];
         let asked = try_member(s, x, d, at, n, members, i, so_far);
         if asked.yes {
             return asked;
         }
         so_far = asked.tried;
-        i += 1;
     }
     Tried {
         yes: false,
@@ -86,15 +84,13 @@ pub fn seek_entries(
         × (result.tried ≡ tried_until_wanted (nodes_at d.now at n) (table_at t.now) (sheet_at s.now).patterns) }
 {
     let mut so_far = 0;
-    let mut j = 0;
-    while j < entry_count {
+    for j in 0..entry_count {
         let e = entry_at(t, entry_places[j]);
         let asked = seek_entry(s, count, places, d, at, n, e, so_far);
         if asked.yes {
             return asked;
         }
         so_far = asked.tried;
-        j += 1;
     }
     Tried {
         yes: false,

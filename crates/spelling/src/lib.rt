@@ -13,64 +13,55 @@ ghost use Rattle.spelling.specs.OnlyPattern.{only_place};
 ghost use Rattle.spelling.specs.TextSays.{pattern_says, subscription_says};
 
 use crate::line::write_line;
-use base::Cur;
-use meaning::{NOT_THERE, Output};
+use meaning::Refusal;
 use places::{byte_at, end};
 use reading::patterns::pattern;
 use reading::sheet;
 use subscriptions::{numbered, pattern_at, subscriptions_in};
 
 // Where a pattern ends that is all of the bytes, or its first fault, with so many labels.
-fn only_pattern(p: &[u8], known: usize) -> Cur
+fn only_pattern(p: &[u8], known: usize) -> Result<usize, Refusal>
     ensures { result ≡ only_place p.now known }
 {
-    match pattern(p, known, 0) {
-        Cur::At(x) => end(p, x),
-        Cur::No(n) => Cur::No(n),
-    }
+    let x = pattern(p, known, 0)?;
+    end(p, x)
 }
 
 // Writes a pattern's bytes as a line, beside a sheet that was judged.
-fn write_given(s: &[u8], p: &[u8], out: &mut [u8]) -> Output
+fn write_given(s: &[u8], p: &[u8], out: &mut [u8]) -> Result<usize, Refusal>
     requires { SheetStands s.now }
     ensures { Gives output_answer out.old (pattern_says (sheet_at s.now) p.now) result out.new }
 {
-    match only_pattern(p, byte_at(s, 0)) {
-        Cur::At(x) => write_line(s, pattern_at(p, 0), out),
-        Cur::No(n) => Output::Refused(n),
-    }
+    only_pattern(p, byte_at(s, 0))?;
+    write_line(s, pattern_at(p, 0), out)
 }
 
 // Writes subscription i of a sheet that was judged as a line.
-fn write_numbered(s: &[u8], i: u64, out: &mut [u8]) -> Output
+fn write_numbered(s: &[u8], i: u64, out: &mut [u8]) -> Result<usize, Refusal>
     requires { SheetStands s.now }
     ensures { Gives output_answer out.old (subscription_says (sheet_at s.now) i) result out.new }
 {
     let v = subscriptions_in(s);
     if v.count as u64 <= i {
-        return Output::Refused(NOT_THERE);
+        return Err(Refusal::NotThere);
     }
     write_line(s, numbered(s, v, i as usize), out)
 }
 
 // A pattern's bytes as a line, written from the start of the output.
-pub fn write_pattern(s: &[u8], p: &[u8], out: &mut [u8]) -> Output
+pub fn write_pattern(s: &[u8], p: &[u8], out: &mut [u8]) -> Result<usize, Refusal>
     ensures { (result ≡ output_answer (with_room out.old (pattern_writing s.now p.now)))
         × (out.new ≡ after out.old (with_room out.old (pattern_writing s.now p.now))) }
 {
-    match sheet(s) {
-        Cur::At(x) => write_given(s, p, out),
-        Cur::No(n) => Output::Refused(n),
-    }
+    sheet(s)?;
+    write_given(s, p, out)
 }
 
 // A subscription as a line, written from the start of the output.
-pub fn write_subscription(s: &[u8], i: u64, out: &mut [u8]) -> Output
+pub fn write_subscription(s: &[u8], i: u64, out: &mut [u8]) -> Result<usize, Refusal>
     ensures { (result ≡ output_answer (with_room out.old (subscription_writing s.now i)))
         × (out.new ≡ after out.old (with_room out.old (subscription_writing s.now i))) }
 {
-    match sheet(s) {
-        Cur::At(x) => write_numbered(s, i, out),
-        Cur::No(n) => Output::Refused(n),
-    }
+    sheet(s)?;
+    write_numbered(s, i, out)
 }

@@ -10,7 +10,7 @@ ghost use Rattle.writing.specs.Gives.{Gives};
 
 use labels::label_at;
 use labels::written::writable;
-use meaning::{LONGEST_LINE, NO_ROOM, NOT_WRITABLE, Output};
+use meaning::{LONGEST_LINE, Refusal};
 use shapes::Pattern;
 use texts::pattern::put_pattern;
 use texts::put_bytes;
@@ -20,30 +20,28 @@ fn all_writable(s: &[u8], p: Pattern) -> bool
     requires { WellFormed p }
     ensures { result ≡ every (step_writable (sheet_at s.now).labels) (steps_of (pattern_of p)) }
 {
-    let mut k = 0;
-    while k < p.count {
+    for k in 0..p.count {
         let x = p.steps[k];
         if !writable(label_at(s, x.label as usize)) {
             return false;
         }
-        k += 1;
     }
     true
 }
 
 // Writes a pattern as a line, beside a sheet that was judged.
-pub fn write_line(s: &[u8], p: Pattern, out: &mut [u8]) -> Output
+pub fn write_line(s: &[u8], p: Pattern, out: &mut [u8]) -> Result<usize, Refusal>
     requires { SheetStands s.now × WellFormed p }
     ensures { Gives output_answer out.old (text_writing (sheet_at s.now).labels (pattern_of p)) result out.new }
 {
     if !all_writable(s, p) {
-        return Output::Refused(NOT_WRITABLE);
+        return Err(Refusal::NotWritable);
     }
     let mut line = [0; LONGEST_LINE];
     let n = put_pattern(&mut line, 0, s, p);
     if out.len() < n {
-        return Output::Refused(NO_ROOM);
+        return Err(Refusal::NoRoom);
     }
     put_bytes(out, 0, &line[..n]);
-    Output::Wrote(n)
+    Ok(n)
 }

@@ -1,4 +1,5 @@
 -- `answers::build` meets its contract: the sheet is judged first, and a refusal leaves the output as found.
+use Rattle.std.proofs.lemmas.Result.{err_from_is_err_and}
 use mathlib.Core.Path.{sym, ◌∙◌}
 use Rattle.reading.specs.SheetJudged.{sheet-stands}
 use Rattle.answers.specs.Says.{build-said, build-refused}
@@ -6,11 +7,13 @@ use Rattle.answers.specs.Outcome.{build-refuses, build-same}
 use Rattle.answers.proofs.build.Goals as goal
 
 pub build_first-requires : goal.build_first-requires
-build_first-requires c = sheet-stands _ _ (sym c.sheet.ensures ∙ c.in-At.is)
+build_first-requires c = sheet-stands _ _ (sym c.sheet.ensures ∙ c.in_ok-sheet.was)
 
-pub returns-in-Ok : goal.returns-in-Ok
-returns-in-Ok c =
-    build-same _ _ _ (build-said _ _ _ (sym c.sheet.ensures ∙ c.in-At.is)) _ _ c.build_first.ensures
+pub returns : goal.returns
+returns c =
+    build-same _ _ _ (build-said _ _ _ (sym c.sheet.ensures ∙ c.in_ok-sheet.was)) _ _ c.build_first.ensures
 
-pub returns-in-Err : goal.returns-in-Err
-returns-in-Err c = build-refuses _ _ _ (build-refused _ _ _ (sym c.sheet.ensures ∙ c.in-No.is))
+pub returns-in_err-sheet : goal.returns-in_err-sheet
+returns-in_err-sheet c =
+    let p = err_from_is_err_and c.from_residual.result c.from_residual.ensures.1 in
+    rw (p.1, p.2) (build-refuses _ _ _ (build-refused _ _ _ (sym c.sheet.ensures ∙ c.in_err-sheet.was)))

@@ -1,15 +1,18 @@
 -- `answers::covers` meets its contract: the sheet is judged first.
+use Rattle.std.proofs.lemmas.Result.{err_from_is_err_and}
 use mathlib.Core.Path.{sym, ◌∙◌}
 use Rattle.reading.specs.SheetJudged.{sheet-stands}
 use Rattle.answers.specs.Says.{covers-said, covers-refused}
 use Rattle.answers.proofs.covers.Goals as goal
 
 pub covers_numbered-requires : goal.covers_numbered-requires
-covers_numbered-requires c = sheet-stands _ _ (sym c.sheet.ensures ∙ c.in-At.is)
+covers_numbered-requires c = sheet-stands _ _ (sym c.sheet.ensures ∙ c.in_ok-sheet.was)
 
-pub returns-in-Ok : goal.returns-in-Ok
-returns-in-Ok c =
-    c.covers_numbered.ensures ∙ covers-said _ _ _ _ (sym c.sheet.ensures ∙ c.in-At.is)
+pub returns : goal.returns
+returns c =
+    c.covers_numbered.ensures ∙ covers-said _ _ _ _ (sym c.sheet.ensures ∙ c.in_ok-sheet.was)
 
-pub returns-in-Err : goal.returns-in-Err
-returns-in-Err c = covers-refused _ _ _ _ (sym c.sheet.ensures ∙ c.in-No.is)
+pub returns-in_err-sheet : goal.returns-in_err-sheet
+returns-in_err-sheet c =
+    let p = err_from_is_err_and c.from_residual.result c.from_residual.ensures.1 in
+    rw (p.1, p.2) (covers-refused _ _ _ _ (sym c.sheet.ensures ∙ c.in_err-sheet.was))

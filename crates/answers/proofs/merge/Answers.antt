@@ -1,4 +1,5 @@
 -- `answers::merge` meets its contract: the sheet is judged first, and a refusal leaves the output as found.
+use Rattle.std.proofs.lemmas.Result.{err_from_is_err_and}
 use mathlib.Core.Path.{sym, ◌∙◌}
 use Rattle.reading.specs.SheetJudged.{sheet-stands}
 use Rattle.answers.specs.Says.{merge-said, merge-refused}
@@ -6,11 +7,13 @@ use Rattle.answers.specs.Outcome.{merge-refuses, merge-same}
 use Rattle.answers.proofs.merge.Goals as goal
 
 pub merge_numbered-requires : goal.merge_numbered-requires
-merge_numbered-requires c = sheet-stands _ _ (sym c.sheet.ensures ∙ c.in-At.is)
+merge_numbered-requires c = sheet-stands _ _ (sym c.sheet.ensures ∙ c.in_ok-sheet.was)
 
-pub returns-in-Ok : goal.returns-in-Ok
-returns-in-Ok c =
-    merge-same _ _ _ (merge-said _ _ _ _ (sym c.sheet.ensures ∙ c.in-At.is)) _ _ c.merge_numbered.ensures
+pub returns : goal.returns
+returns c =
+    merge-same _ _ _ (merge-said _ _ _ _ (sym c.sheet.ensures ∙ c.in_ok-sheet.was)) _ _ c.merge_numbered.ensures
 
-pub returns-in-Err : goal.returns-in-Err
-returns-in-Err c = merge-refuses _ _ _ (merge-refused _ _ _ _ (sym c.sheet.ensures ∙ c.in-No.is))
+pub returns-in_err-sheet : goal.returns-in_err-sheet
+returns-in_err-sheet c =
+    let p = err_from_is_err_and c.from_residual.result c.from_residual.ensures.1 in
+    rw (p.1, p.2) (merge-refuses _ _ _ (merge-refused _ _ _ _ (sym c.sheet.ensures ∙ c.in_err-sheet.was)))

@@ -6,6 +6,3 @@ use Rattle.fairness.proofs.all_fit.Given as goal
 
 abbrev pub invariant-loop-j : goal.invariant-loop-j
 invariant-loop-j l = FittingEntries l.n l.t (entries_lent l.count l.places) l.j
-
-abbrev pub decreases-loop-j : goal.decreases-loop-j
-decreases-loop-j l = l.count - l.j

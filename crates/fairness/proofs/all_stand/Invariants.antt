@@ -7,6 +7,3 @@ use Rattle.fairness.proofs.all_stand.Given as goal
 
 abbrev pub invariant-loop-i : goal.invariant-loop-i
 invariant-loop-i l = StandingFrom l.s (subscriptions_lent l.count l.places) (table_at l.t) l.i
-
-abbrev pub decreases-loop-i : goal.decreases-loop-i
-decreases-loop-i l = l.count - l.i

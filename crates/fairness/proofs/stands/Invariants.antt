@@ -7,6 +7,3 @@ use Rattle.fairness.proofs.stands.Given as goal
 
 abbrev pub invariant-loop-j : goal.invariant-loop-j
 invariant-loop-j l = WeighingEntries l.i (pattern_of l.p) l.t (entries_lent l.count l.places) l.j l.found
-
-abbrev pub decreases-loop-j : goal.decreases-loop-j
-decreases-loop-j l = l.count - l.j

@@ -6,6 +6,3 @@ use Rattle.fairness.proofs.take_members.Given as goal
 
 abbrev pub invariant-loop-j : goal.invariant-loop-j
 invariant-loop-j l = (l.j ≤ l.count) × FirstMembers l.t (entries_lent l.count l.places) l.j l.members
-
-abbrev pub decreases-loop-j : goal.decreases-loop-j
-decreases-loop-j l = l.count - l.j

@@ -1,4 +1,5 @@
 -- `lines::read_line` meets its contract: the sheet is judged first, and a refusal leaves the output as found.
+use Rattle.std.proofs.lemmas.Result.{err_from_is_err_and}
 use mathlib.Core.Path.{sym, ◌∙◌}
 use Rattle.reading.specs.SheetJudged.{sheet-stands}
 use Rattle.lines.specs.Said.{line-said, line_refused}
@@ -6,12 +7,13 @@ use Rattle.lines.proofs.read_line.Goals as goal
 
 pub read_judged-requires : goal.read_judged-requires
 read_judged-requires c =
-    sheet-stands _ _ (sym c.sheet.ensures ∙ c.in-At.is)
+    sheet-stands _ _ (sym c.sheet.ensures ∙ c.in_ok-sheet.was)
 
-pub returns-in-Ok : goal.returns-in-Ok
-returns-in-Ok c =
-    line-said _ _ _ _ (sym c.sheet.ensures ∙ c.in-At.is) _ _ c.read_judged.ensures
+pub returns : goal.returns
+returns c =
+    line-said _ _ _ _ (sym c.sheet.ensures ∙ c.in_ok-sheet.was) _ _ c.read_judged.ensures
 
-pub returns-in-Err : goal.returns-in-Err
-returns-in-Err c =
-    line_refused _ _ _ _ (sym c.sheet.ensures ∙ c.in-No.is)
+pub returns-in_err-sheet : goal.returns-in_err-sheet
+returns-in_err-sheet c =
+    let p = err_from_is_err_and c.from_residual.result c.from_residual.ensures.1 in
+    rw (p.1, p.2) (line_refused _ _ _ _ (sym c.sheet.ensures ∙ c.in_err-sheet.was))

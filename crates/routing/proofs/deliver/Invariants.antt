@@ -6,6 +6,3 @@ use Rattle.routing.proofs.deliver.Given as goal
 
 abbrev pub invariant-loop-i : goal.invariant-loop-i
 invariant-loop-i l = Delivering (nodes_at l.d l.at l.n) l.s l.subscriptions l.i l.set
-
-abbrev pub decreases-loop-i : goal.decreases-loop-i
-decreases-loop-i l = l.subscriptions.count - l.i

@@ -1,4 +1,5 @@
 -- `routing::plain_route` meets its contract: by the places that were reached.
+use Rattle.std.proofs.lemmas.Result.{err_from_is_err_and}
 use mathlib.Core.Path.{sym, ◌∙◌}
 use Rattle.documents.specs.DocumentJudged.{sheet-document-stand}
 use Rattle.routing.specs.RouteAnswers.{plain-refused, plain-delivered}
@@ -6,13 +7,15 @@ use Rattle.routing.proofs.plain_route.Goals as goal
 
 pub deliver-requires : goal.deliver-requires
 deliver-requires c =
-    let judged = sym c.sheet_and_document.ensures ∙ c.in-At.is in
+    let judged = sym c.sheet_and_document.ensures ∙ c.in_ok-sheet_and_document.was in
     sheet-document-stand _ _ _ _ _ judged c.node_place.ensures.0 c.node_count.ensures.0
 
-pub returns-in-Ok : goal.returns-in-Ok
-returns-in-Ok c =
-    let judged = sym c.sheet_and_document.ensures ∙ c.in-At.is in
+pub returns : goal.returns
+returns c =
+    let judged = sym c.sheet_and_document.ensures ∙ c.in_ok-sheet_and_document.was in
     plain-delivered _ _ judged c.node_place.ensures.0 c.node_count.ensures.0 c.deliver.ensures
 
-pub returns-in-Err : goal.returns-in-Err
-returns-in-Err c = plain-refused _ _ (sym c.sheet_and_document.ensures ∙ c.in-No.is)
+pub returns-in_err-sheet_and_document : goal.returns-in_err-sheet_and_document
+returns-in_err-sheet_and_document c =
+    let p = err_from_is_err_and c.from_residual.result c.from_residual.ensures.1 in
+    rw (p.1, p.2) (plain-refused _ _ (sym c.sheet_and_document.ensures ∙ c.in_err-sheet_and_document.was))

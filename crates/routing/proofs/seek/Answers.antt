@@ -1,20 +1,23 @@
 -- `routing::seek` meets its contract: by the place that was reached.
+use Rattle.std.proofs.lemmas.Result.{err_from_is_err_and}
 use mathlib.Core.Path.{sym, ◌∙◌}
 use Rattle.routing.specs.ThreeJudged.{three_stand}
 use Rattle.routing.specs.Sought.{sought_refused, sought_told}
 use Rattle.routing.proofs.seek.Goals as goal
 
-pub seek_entries-asked-requires : goal.seek_entries-asked-requires
-seek_entries-asked-requires c =
-    let judged = sym c.sheet_table_and_document.ensures ∙ c.in-At.is in
+pub seek_entries-requires : goal.seek_entries-requires
+seek_entries-requires c =
+    let judged = sym c.sheet_table_and_document.ensures ∙ c.in_ok-sheet_table_and_document.was in
     three_stand _ _ _ judged c.subscriptions_in-subscriptions.ensures c.entries_in-entries.ensures
     c.node_place.ensures.0 c.node_count.ensures.0
 
-pub returns-in-Ok : goal.returns-in-Ok
-returns-in-Ok c =
-    let judged = sym c.sheet_table_and_document.ensures ∙ c.in-At.is in
+pub returns : goal.returns
+returns c =
+    let judged = sym c.sheet_table_and_document.ensures ∙ c.in_ok-sheet_table_and_document.was in
     sought_told _ _ _ judged c.node_place.ensures.0 c.node_count.ensures.0
-    c.seek_entries-asked.ensures
+    c.seek_entries.ensures
 
-pub returns-in-Err : goal.returns-in-Err
-returns-in-Err c = sought_refused _ _ _ (sym c.sheet_table_and_document.ensures ∙ c.in-No.is)
+pub returns-in_err-sheet_table_and_document : goal.returns-in_err-sheet_table_and_document
+returns-in_err-sheet_table_and_document c =
+    let p = err_from_is_err_and c.from_residual.result c.from_residual.ensures.1 in
+    rw (p.1, p.2) (sought_refused _ _ _ (sym c.sheet_table_and_document.ensures ∙ c.in_err-sheet_table_and_document.was))

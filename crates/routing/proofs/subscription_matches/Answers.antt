@@ -1,4 +1,5 @@
 -- `routing::subscription_matches` meets its contract: by the places that were reached.
+use Rattle.std.proofs.lemmas.Result.{err_from_is_err_and}
 use mathlib.Core.Path.{sym, ◌∙◌}
 use Rattle.documents.specs.DocumentJudged.{sheet-document-stand}
 use Rattle.routing.specs.RouteAnswers.{match_refused, match_answered}
@@ -6,13 +7,15 @@ use Rattle.routing.proofs.subscription_matches.Goals as goal
 
 pub ask_numbered-requires : goal.ask_numbered-requires
 ask_numbered-requires c =
-    let judged = sym c.sheet_and_document.ensures ∙ c.in-At.is in
+    let judged = sym c.sheet_and_document.ensures ∙ c.in_ok-sheet_and_document.was in
     sheet-document-stand _ _ _ _ _ judged c.node_place.ensures.0 c.node_count.ensures.0
 
-pub returns-in-Ok : goal.returns-in-Ok
-returns-in-Ok c =
-    let judged = sym c.sheet_and_document.ensures ∙ c.in-At.is in
+pub returns : goal.returns
+returns c =
+    let judged = sym c.sheet_and_document.ensures ∙ c.in_ok-sheet_and_document.was in
     match_answered _ _ judged c.node_place.ensures.0 c.node_count.ensures.0 _ c.ask_numbered.ensures
 
-pub returns-in-Err : goal.returns-in-Err
-returns-in-Err c = match_refused _ _ _ (sym c.sheet_and_document.ensures ∙ c.in-No.is)
+pub returns-in_err-sheet_and_document : goal.returns-in_err-sheet_and_document
+returns-in_err-sheet_and_document c =
+    let p = err_from_is_err_and c.from_residual.result c.from_residual.ensures.1 in
+    rw (p.1, p.2) (match_refused _ _ _ (sym c.sheet_and_document.ensures ∙ c.in_err-sheet_and_document.was))

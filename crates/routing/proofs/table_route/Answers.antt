@@ -1,20 +1,23 @@
 -- `routing::table_route` meets its contract: by the place that was reached.
+use Rattle.std.proofs.lemmas.Result.{err_from_is_err_and}
 use mathlib.Core.Path.{sym, ◌∙◌}
 use Rattle.routing.specs.ThreeJudged.{three_stand}
 use Rattle.routing.specs.RouteAnswers.{table-refused, table-delivered}
 use Rattle.routing.proofs.table_route.Goals as goal
 
-pub ask_entries-route-requires : goal.ask_entries-route-requires
-ask_entries-route-requires c =
-    let judged = sym c.sheet_table_and_document.ensures ∙ c.in-At.is in
+pub ask_entries-requires : goal.ask_entries-requires
+ask_entries-requires c =
+    let judged = sym c.sheet_table_and_document.ensures ∙ c.in_ok-sheet_table_and_document.was in
     three_stand _ _ _ judged c.subscriptions_in-subscriptions.ensures c.entries_in-entries.ensures
     c.node_place.ensures.0 c.node_count.ensures.0
 
-pub returns-in-Ok : goal.returns-in-Ok
-returns-in-Ok c =
-    let judged = sym c.sheet_table_and_document.ensures ∙ c.in-At.is in
+pub returns : goal.returns
+returns c =
+    let judged = sym c.sheet_table_and_document.ensures ∙ c.in_ok-sheet_table_and_document.was in
     table-delivered _ _ _ judged c.node_place.ensures.0 c.node_count.ensures.0
-    c.ask_entries-route.ensures
+    c.ask_entries.ensures
 
-pub returns-in-Err : goal.returns-in-Err
-returns-in-Err c = table-refused _ _ _ (sym c.sheet_table_and_document.ensures ∙ c.in-No.is)
+pub returns-in_err-sheet_table_and_document : goal.returns-in_err-sheet_table_and_document
+returns-in_err-sheet_table_and_document c =
+    let p = err_from_is_err_and c.from_residual.result c.from_residual.ensures.1 in
+    rw (p.1, p.2) (table-refused _ _ _ (sym c.sheet_table_and_document.ensures ∙ c.in_err-sheet_table_and_document.was))

@@ -1,12 +1,15 @@
 -- `routing::wanted` meets its contract: what was sought, without the tries.
-use mathlib.Core.Path.{ap, sym, ◌∙◌}
+use Rattle.std.proofs.Common.{ap, sym, ◌∙◌}
+use Rattle.std.proofs.lemmas.Result.{err_from_is_err_and}
 use Rattle.routing.specs.Sought.{without_tries, sought_wanted}
 use Rattle.routing.proofs.wanted.Goals as goal
 
-pub returns-in-Refused : goal.returns-in-Refused
+pub returns : goal.returns
 unfolding without_tries
-returns-in-Refused c = ap without_tries (sym c.in-Refused.is ∙ c.seek.ensures) ∙ sought_wanted _ _ _
+returns c = ap without_tries (sym c.in_ok-asked.was ∙ c.seek.ensures) ∙ sought_wanted _ _ _
 
-pub returns-in-Told : goal.returns-in-Told
+pub returns-in_err-asked : goal.returns-in_err-asked
 unfolding without_tries
-returns-in-Told c = ap without_tries (sym c.in-Told.is ∙ c.seek.ensures) ∙ sought_wanted _ _ _
+returns-in_err-asked c =
+    let p = err_from_is_err_and c.from_residual.result c.from_residual.ensures.1 in
+    rw (p.1, p.2) (ap without_tries (sym c.in_err-asked.was ∙ c.seek.ensures) ∙ sought_wanted _ _ _)

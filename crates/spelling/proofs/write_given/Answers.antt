@@ -1,4 +1,5 @@
 -- `spelling::write_given` meets its contract: the pattern's bytes are judged first.
+use Rattle.std.proofs.lemmas.Result.{err_from_is_err_and}
 use mathlib.Core.Path.{sym, ◌∙◌}
 use Rattle.meaning.specs.LineCalls.{output_answer}
 use Rattle.writing.specs.Gives.{gives-refusal, gives_same}
@@ -9,16 +10,16 @@ use Rattle.spelling.proofs.write_given.Goals as goal
 pub write_line-requires : goal.write_line-requires
 write_line-requires c = (
   c.requires,
-  rw c.pattern_at.ensures (only_taken _ _ _ (sym c.only_pattern.ensures ∙ c.in-At.is)).1,
+  rw c.pattern_at.ensures (only_taken _ _ _ (sym c.only_pattern.ensures ∙ c.in_ok-only_pattern.was)).1,
 )
 
-pub returns-in-Ok : goal.returns-in-Ok
-returns-in-Ok c =
-    let said = bytes-said _ _ _ c.byte_at.ensures.0 _ (sym c.only_pattern.ensures ∙ c.in-At.is) _ c.pattern_at.ensures in
+pub returns : goal.returns
+returns c =
+    let said = bytes-said _ _ _ c.byte_at.ensures.0 _ (sym c.only_pattern.ensures ∙ c.in_ok-only_pattern.was) _ c.pattern_at.ensures in
     gives_same output_answer _ _ _ said _ _ c.write_line.ensures
 
-pub returns-in-Err : goal.returns-in-Err
+pub returns-in_err-only_pattern : goal.returns-in_err-only_pattern
 unfolding output_answer
-returns-in-Err c =
-    gives-refusal output_answer _ _ _
-    (bytes-refused _ _ _ c.byte_at.ensures.0 _ (sym c.only_pattern.ensures ∙ c.in-No.is))
+returns-in_err-only_pattern c =
+    let p = err_from_is_err_and c.from_residual.result c.from_residual.ensures.1 in
+    rw (p.1, p.2) (gives-refusal output_answer _ _ _ (bytes-refused _ _ _ c.byte_at.ensures.0 _ (sym c.only_pattern.ensures ∙ c.in_err-only_pattern.was)))

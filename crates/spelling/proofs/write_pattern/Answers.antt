@@ -1,4 +1,5 @@
 -- `spelling::write_pattern` meets its contract: the sheet is judged first, and a refusal leaves the output as found.
+use Rattle.std.proofs.lemmas.Result.{err_from_is_err_and}
 use mathlib.Core.Path.{sym, ◌∙◌}
 use Rattle.meaning.specs.LineCalls.{output_answer}
 use Rattle.reading.specs.SheetJudged.{sheet-stands}
@@ -8,13 +9,14 @@ use Rattle.spelling.proofs.write_pattern.Goals as goal
 
 pub write_given-requires : goal.write_given-requires
 write_given-requires c =
-    sheet-stands _ _ (sym c.sheet.ensures ∙ c.in-At.is)
+    sheet-stands _ _ (sym c.sheet.ensures ∙ c.in_ok-sheet.was)
 
-pub returns-in-Ok : goal.returns-in-Ok
-returns-in-Ok c =
-    gives_same output_answer _ _ _ (pattern_said_lem _ _ _ (sym c.sheet.ensures ∙ c.in-At.is)) _ _ c.write_given.ensures
+pub returns : goal.returns
+returns c =
+    gives_same output_answer _ _ _ (pattern_said_lem _ _ _ (sym c.sheet.ensures ∙ c.in_ok-sheet.was)) _ _ c.write_given.ensures
 
-pub returns-in-Err : goal.returns-in-Err
+pub returns-in_err-sheet : goal.returns-in_err-sheet
 unfolding output_answer
-returns-in-Err c =
-    gives-refusal output_answer _ _ _ (pattern-refused _ _ _ (sym c.sheet.ensures ∙ c.in-No.is))
+returns-in_err-sheet c =
+    let p = err_from_is_err_and c.from_residual.result c.from_residual.ensures.1 in
+    rw (p.1, p.2) (gives-refusal output_answer _ _ _ (pattern-refused _ _ _ (sym c.sheet.ensures ∙ c.in_err-sheet.was)))

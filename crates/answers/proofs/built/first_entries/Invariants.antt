@@ -6,6 +6,3 @@ use Rattle.answers.proofs.built.first_entries.Given as goal
 
 abbrev pub invariant-loop-i : goal.invariant-loop-i
 invariant-loop-i l = FirstOnes (sheet_at l.s).patterns l.i l.t
-
-abbrev pub decreases-loop-i : goal.decreases-loop-i
-decreases-loop-i l = l.v.count - l.i

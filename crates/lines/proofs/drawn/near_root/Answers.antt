@@ -8,6 +8,6 @@ pub returns-then-x-eq0 : goal.returns-then-x-eq0
 unfolding is_near_root near_root
 returns-then-x-eq0 c = rw (eq-eqb _ 0 c.if-x-eq0.true) refl
 
-pub returns : goal.returns
+pub returns-else-x-eq0 : goal.returns-else-x-eq0
 unfolding is_near_root near_root
-returns c = rw (ne_eqb _ 0 c.if-x-eq0.false) refl
+returns-else-x-eq0 c = rw (ne_eqb _ 0 c.if-x-eq0.false) refl

@@ -6,6 +6,3 @@ use Rattle.lines.proofs.drawn.near_roots.Given as goal
 
 abbrev pub invariant-loop-k : goal.invariant-loop-k
 invariant-loop-k l = (l.n ≤ l.k) × (l.n + near_roots_from l.p l.k ≡ near_roots_from l.p 0)
-
-abbrev pub decreases-loop-k : goal.decreases-loop-k
-decreases-loop-k l = l.p.count - l.k

@@ -8,6 +8,3 @@ use Rattle.routing.proofs.by_table.ask_entries.Given as goal
 
 abbrev pub invariant-loop-j : goal.invariant-loop-j
 invariant-loop-j l = TryingEntries (nodes_at l.d l.at l.n) (sheet_at l.s).patterns (table_at l.t) l.j l.so_far
-
-abbrev pub decreases-loop-j : goal.decreases-loop-j
-decreases-loop-j l = l.entry_count - l.j

@@ -7,6 +7,3 @@ use Rattle.routing.proofs.by_table.ask_members.Given as goal
 
 abbrev pub invariant-loop-i : goal.invariant-loop-i
 invariant-loop-i l = TryingMembers (nodes_at l.d l.at l.n) (sheet_at l.s).patterns l.members l.initial.so_far l.i l.so_far
-
-abbrev pub decreases-loop-i : goal.decreases-loop-i
-decreases-loop-i l = l.count - l.i
