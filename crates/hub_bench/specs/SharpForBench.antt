@@ -1,5 +1,5 @@
 -- The promises determine what the benchmark is given: any two results that they allow are equal, and so are any two outputs.
-use Rattle.std.specs.Prelude.{ℕ, ◌≡◌, List, Result}
+use Rattle.std.specs.Prelude.{ℕ, ◌≡◌, List}
 use Rattle.meaning.specs.Given.{by_number, LineValues}
 use Rattle.meaning.specs.Promises.{CoversGives, MergeGives, BuildGives, ReadLineGives, WritePatternGives, WriteSubscriptionGives}
 use Rattle.meaning.proofs.Sharp.{only_one, by_number_tells}
@@ -10,13 +10,12 @@ use Rattle.hub_bench.specs.declared.LineReading.{LineReading}
 use Rattle.hub_bench.specs.declared.LineWriting.{LineWriting}
 use Rattle.meaning.specs.declared.Merged.{Merged}
 use Rattle.meaning.specs.declared.Built.{Built}
-use Rattle.meaning.specs.declared.Refusal.{Refusal}
 
 -- the length and the mark, the length and the rounds, the place and the length
-abbrev merged : Merging → Result Merged Refusal
+abbrev merged : Merging → Merged
 merged x = record { length = x.length; clipped = x.clipped }
 
-abbrev built : Building → Result Built Refusal
+abbrev built : Building → Built
 built x = record { length = x.length; rounds = x.rounds }
 
 abbrev line_read : LineReading → LineValues

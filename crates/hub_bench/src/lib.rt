@@ -6,7 +6,7 @@ ghost use Rattle.meaning.specs.Given.{by_number};
 ghost use Rattle.meaning.specs.Promises.{CoversGives, MergeGives, BuildGives};
 ghost use Rattle.meaning.specs.Promises.{ReadLineGives, WritePatternGives, WriteSubscriptionGives};
 
-use meaning::{Asked, Built, Lined, Merged, Output};
+
 
 // Whether one subscription covers another: the number, and yes or no.
 #[repr(C)]
@@ -56,11 +56,11 @@ pub extern "C" fn bench_covers(s: &[u8], i: u64, j: u64) -> Covering
     ensures { CoversGives s.now i j (by_number result.number result.said) }
 {
     match hub::covers(s, i, j) {
-        Asked::Refused(n) => Covering {
-            number: n,
+        Err(why) => Covering {
+            number: why.number(),
             said: false,
         },
-        Asked::Said(yes) => Covering {
+        Ok(yes) => Covering {
             number: 0,
             said: yes,
         },
@@ -73,15 +73,15 @@ pub extern "C" fn bench_merge(s: &[u8], i: u64, j: u64, out: &mut [u8]) -> Mergi
         (by_number result.number (record { length = result.length; clipped = result.clipped })) out.new }
 {
     match hub::merge(s, i, j, out) {
-        Merged::Refused(n) => Merging {
-            number: n,
+        Err(why) => Merging {
+            number: why.number(),
             clipped: false,
             length: 0,
         },
-        Merged::Wrote { length, clipped } => Merging {
+        Ok(merged) => Merging {
             number: 0,
-            clipped: clipped,
-            length: length as u64,
+            clipped: merged.clipped,
+            length: merged.length as u64,
         },
     }
 }
@@ -92,15 +92,15 @@ pub extern "C" fn bench_build(s: &[u8], limit: u16, out: &mut [u8]) -> Building
         (by_number result.number (record { length = result.length; rounds = result.rounds })) out.new }
 {
     match hub::build(s, limit, out) {
-        Built::Refused(n) => Building {
-            number: n,
+        Err(why) => Building {
+            number: why.number(),
             rounds: 0,
             length: 0,
         },
-        Built::Wrote { length, rounds } => Building {
+        Ok(built) => Building {
             number: 0,
-            rounds: rounds as u64,
-            length: length as u64,
+            rounds: built.rounds as u64,
+            length: built.length as u64,
         },
     }
 }
@@ -111,12 +111,12 @@ pub extern "C" fn bench_read_line(s: &[u8], line: &[u8], out: &mut [u8]) -> Line
         (by_number result.number (record { place = result.place; length = result.length })) out.new }
 {
     match hub::read_line(s, line, out) {
-        Lined::Refused { number, place } => LineReading {
-            number: number,
-            place: place as u64,
+        Err(refusal) => LineReading {
+            number: refusal.why.number(),
+            place: refusal.place as u64,
             length: 0,
         },
-        Lined::Wrote(length) => LineReading {
+        Ok(length) => LineReading {
             number: 0,
             place: 0,
             length: length as u64,
@@ -130,11 +130,11 @@ pub extern "C" fn bench_write_pattern(s: &[u8], p: &[u8], out: &mut [u8]) -> Lin
         (by_number result.number result.length) out.new }
 {
     match hub::write_pattern(s, p, out) {
-        Output::Refused(n) => LineWriting {
-            number: n,
+        Err(why) => LineWriting {
+            number: why.number(),
             length: 0,
         },
-        Output::Wrote(length) => LineWriting {
+        Ok(length) => LineWriting {
             number: 0,
             length: length as u64,
         },
@@ -147,11 +147,11 @@ pub extern "C" fn bench_write_subscription(s: &[u8], i: u64, out: &mut [u8]) -> 
         (by_number result.number result.length) out.new }
 {
     match hub::write_subscription(s, i, out) {
-        Output::Refused(n) => LineWriting {
-            number: n,
+        Err(why) => LineWriting {
+            number: why.number(),
             length: 0,
         },
-        Output::Wrote(length) => LineWriting {
+        Ok(length) => LineWriting {
             number: 0,
             length: length as u64,
         },

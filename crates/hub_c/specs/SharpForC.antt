@@ -1,6 +1,6 @@
 -- The promises determine what the print server is given: any two answers that they allow are equal. (That of the sheet check is
 -- a number alone: `sheet_check_sharp` of `meaning`.)
-use Rattle.std.specs.Prelude.{ℕ, ◌≡◌, List, Result}
+use Rattle.std.specs.Prelude.{ℕ, ◌≡◌, List}
 use Rattle.meaning.specs.Given.{by_number}
 use Rattle.meaning.specs.Promises.{PlainRouteGives, TableRouteGives, WantedGives}
 use Rattle.meaning.proofs.Sharp.{only_one, by_number_tells}
@@ -8,10 +8,9 @@ use Rattle.hub_c.specs.declared.PlainRoute.{PlainRoute}
 use Rattle.hub_c.specs.declared.TableRoute.{TableRoute}
 use Rattle.hub_c.specs.declared.Wanted.{Wanted}
 use Rattle.meaning.specs.declared.Tabled.{Tabled}
-use Rattle.meaning.specs.declared.Refusal.{Refusal}
 
 -- the set and the tries
-abbrev routed : TableRoute → Result Tabled Refusal
+abbrev routed : TableRoute → Tabled
 routed x = record { set = x.delivered; tried = x.tried }
 
 module _ (s d : List ℕ) where

@@ -5,7 +5,7 @@
 ghost use Rattle.meaning.specs.Given.{by_number};
 ghost use Rattle.meaning.specs.Promises.{SheetCheckGives, PlainRouteGives, TableRouteGives, WantedGives};
 
-use meaning::{Asked, Routed, Tabled};
+use meaning::number_given;
 
 // The plain route: the number, and the delivery set.
 #[repr(C)]
@@ -36,7 +36,7 @@ pub struct Wanted {
 pub extern "C" fn hub_sheet_check(s: &[u8]) -> u8
     ensures { SheetCheckGives s.now result }
 {
-    hub::sheet_check(s)
+    number_given(hub::sheet_check(s))
 }
 
 #[unsafe(no_mangle)]
@@ -44,11 +44,11 @@ pub extern "C" fn hub_plain_route(s: &[u8], d: &[u8]) -> PlainRoute
     ensures { PlainRouteGives s.now d.now (by_number result.number result.delivered) }
 {
     match hub::plain_route(s, d) {
-        Routed::Refused(n) => PlainRoute {
-            number: n,
+        Err(why) => PlainRoute {
+            number: why.number(),
             delivered: 0,
         },
-        Routed::Delivered(set) => PlainRoute {
+        Ok(set) => PlainRoute {
             number: 0,
             delivered: set,
         },
@@ -61,15 +61,15 @@ pub extern "C" fn hub_table_route(s: &[u8], t: &[u8], d: &[u8]) -> TableRoute
         (by_number result.number (record { set = result.delivered; tried = result.tried })) }
 {
     match hub::table_route(s, t, d) {
-        Tabled::Refused(n) => TableRoute {
-            number: n,
+        Err(why) => TableRoute {
+            number: why.number(),
             delivered: 0,
             tried: 0,
         },
-        Tabled::Delivered { set, tried } => TableRoute {
+        Ok(route) => TableRoute {
             number: 0,
-            delivered: set,
-            tried: tried as u64,
+            delivered: route.set,
+            tried: route.tried as u64,
         },
     }
 }
@@ -79,11 +79,11 @@ pub extern "C" fn hub_wanted(s: &[u8], t: &[u8], d: &[u8]) -> Wanted
     ensures { WantedGives s.now t.now d.now (by_number result.number result.wanted) }
 {
     match hub::wanted(s, t, d) {
-        Asked::Refused(n) => Wanted {
-            number: n,
+        Err(why) => Wanted {
+            number: why.number(),
             wanted: false,
         },
-        Asked::Said(yes) => Wanted {
+        Ok(yes) => Wanted {
             number: 0,
             wanted: yes,
         },

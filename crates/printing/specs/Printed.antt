@@ -1,6 +1,7 @@
 -- What is printed for two bytes of limit and a sheet, by the place where judging the sheet ended: the text of the table that is built, or of the refusal.
 use Rattle.std.specs.Prelude.{ℕ, ◌+◌, ◌-◌, ◌*◌, ◌≤◌, ◌<◌, ◌≡◌, refl, List, [], ◌∷◌, length, take, drop, Ok, Err}
 use Rattle.std.proofs.Common.{sym, ap, ◌∙◌, arith, length-drop, take_all}
+use Rattle.meaning.specs.Numbers.{refusal_number}
 use Rattle.meaning.specs.Reader.{Reading, read, refused, go_on, ◌>>=◌, give, byte, number}
 use Rattle.meaning.specs.Sections.{Sheet, sheet}
 use Rattle.meaning.specs.Building.{build, entries_from}
@@ -48,16 +49,16 @@ judged-made (refused n) f refuse next = refl
 
 -- otherwise the sheet behind them decides
 pub printed-sheet : (s : List ℕ) → 2 ≤ length s
-    → printed s ≡ reached (sheet_place (drop 2 s)) refused_text (table_text (sheet_at (drop 2 s)) (build (pair_at s 0) (sheet_at (drop 2 s)).patterns))
+    → printed s ≡ reached (sheet_place (drop 2 s)) (λ why. refused_text (refusal_number why)) (table_text (sheet_at (drop 2 s)) (build (pair_at s 0) (sheet_at (drop 2 s)).patterns))
 unfolding printed asking number ◌>>=◌ go_on byte give pair_at
 printed-sheet [] h = absurd (omega arith)
 printed-sheet (a ∷ []) h = absurd (omega arith)
 printed-sheet (a ∷ b ∷ rest) h =
     let limit : ℕ = a + 256 * (b + 256 * 0) in
     let same : limit ≡ a + 256 * b = omega arith in
-    judged-made (sheet rest) (asked limit) refused_text text_for
-    ∙ sheet-judged rest refused_text (λ sh. text_for (asked limit sh))
-    ∙ ap (λ (l : ℕ). reached (sheet_place rest) refused_text (table_text (sheet_at rest) (build l (sheet_at rest).patterns))) same
+    judged-made (sheet rest) (asked limit) (λ why. refused_text (refusal_number why)) text_for
+    ∙ sheet-judged rest (λ why. refused_text (refusal_number why)) (λ sh. text_for (asked limit sh))
+    ∙ ap (λ (l : ℕ). reached (sheet_place rest) (λ why. refused_text (refusal_number why)) (table_text (sheet_at rest) (build l (sheet_at rest).patterns))) same
   where
     asked : ℕ → Sheet → Asking
     asked l sh = record { limit = l; sheet = sh }
@@ -75,7 +76,7 @@ pub put-short : (s : List ℕ) (w out : Written) → w ≡ put out (refused_text
 put-short s w out e h = e ∙ ap (put out) (sym (printed-short s h))
 
 pub put_no : (s : List ℕ) (w out : Written) (c : Place) (m : Refusal) → 2 ≤ length s → c ≡ sheet_place (take (length s - 2) (drop 2 s)) → c ≡ Err m
-    → w ≡ put out (refused_text m) → w ≡ put out (printed s)
+    → w ≡ put out (refused_text (refusal_number m)) → w ≡ put out (printed s)
 unfolding reached
 put_no s w out c m h e n p =
     let at : sheet_place (drop 2 s) ≡ Err m = ap sheet_place (sym (part_is s)) ∙ sym e ∙ n in

@@ -3,14 +3,12 @@ use Rattle.meaning.specs.Given.{refusal, gives, output_given}
 use Rattle.laws.specs.AnswerNumbers.{by_number_lem, write_subscription_told}
 use Rattle.hub_bench.proofs.bench_write_subscription.Goals as goal
 
-pub returns-in-Refused : goal.returns-in-Refused
+pub returns-in-Err : goal.returns-in-Err
 unfolding output_given refusal
-returns-in-Refused c =
-    let given = c.write_subscription.ensures in
-    record { answer = by_number_lem output_given (write_subscription_told _ _ _) c.in-Refused.is given.answer; output = given.output }
+returns-in-Err c = rw c.number.ensures (let given = c.write_subscription.ensures in record { answer = by_number_lem output_given (write_subscription_told _ _ _) c.in-Err.is given.answer; output = given.output })
 
-pub returns-in-Wrote : goal.returns-in-Wrote
+pub returns-in-Ok : goal.returns-in-Ok
 unfolding output_given gives
-returns-in-Wrote c =
+returns-in-Ok c =
     let given = c.write_subscription.ensures in
-    record { answer = by_number_lem output_given (write_subscription_told _ _ _) c.in-Wrote.is given.answer; output = given.output }
+    record { answer = by_number_lem output_given (write_subscription_told _ _ _) c.in-Ok.is given.answer; output = given.output }

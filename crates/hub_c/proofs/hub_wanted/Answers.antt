@@ -3,10 +3,10 @@ use Rattle.meaning.specs.Given.{refusal, gives, asked_given}
 use Rattle.laws.specs.AnswerNumbers.{by_number_lem, wanted_told}
 use Rattle.hub_c.proofs.hub_wanted.Goals as goal
 
-pub returns-in-Refused : goal.returns-in-Refused
+pub returns-in-Err : goal.returns-in-Err
 unfolding asked_given refusal
-returns-in-Refused c = by_number_lem asked_given (wanted_told _ _ _) c.in-Refused.is c.wanted.ensures
+returns-in-Err c = rw c.number.ensures (by_number_lem asked_given (wanted_told _ _ _) c.in-Err.is c.wanted.ensures)
 
-pub returns-in-Said : goal.returns-in-Said
+pub returns-in-Ok : goal.returns-in-Ok
 unfolding asked_given gives
-returns-in-Said c = by_number_lem asked_given (wanted_told _ _ _) c.in-Said.is c.wanted.ensures
+returns-in-Ok c = by_number_lem asked_given (wanted_told _ _ _) c.in-Ok.is c.wanted.ensures
