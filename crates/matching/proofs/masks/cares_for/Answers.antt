@@ -7,6 +7,6 @@ pub returns-then-label-eq0 : goal.returns-then-label-eq0
 unfolding cares_for
 returns-then-label-eq0 c = search picks depth 5
 
-pub returns : goal.returns
+pub returns-else-label-eq0 : goal.returns-else-label-eq0
 unfolding cares_for
-returns c = search picks depth 5
+returns-else-label-eq0 c = search picks depth 5
