@@ -18,6 +18,7 @@ pub struct Masks {
 }
 
 // The bits of a node's label that matter to a step with this one: all, but none where it is any.
+#[tactic(auto, unfolding(crate::specs::Masks::cares_for, base::specs::Choice::pick))]
 fn cares_for(label: u8) -> u16
     ensures { result ≡ cares_for label }
 {

@@ -8,6 +8,7 @@ use crate::masks::Masks;
 use meaning::MOST_STEPS;
 
 // Does the word have all bits of the mask?
+#[tactic(auto, unfolding(laws::specs::HasAll::has_all))]
 pub fn has_all(word: u16, mask: u16) -> bool
     ensures { result ≡ has_all word mask }
 {
@@ -15,6 +16,7 @@ pub fn has_all(word: u16, mask: u16) -> bool
 }
 
 // The bit, where it is so.
+#[tactic(auto, unfolding(base::specs::Choice::pick))]
 fn bit_where(bit: u16, so: bool) -> u16
     ensures { result ≡ pick so bit 0 }
 {
@@ -37,6 +39,7 @@ impl Masks {
     }
 
     // The turn of node u with this label, whose parent is node up: the parent's word takes what the node gives.
+    #[tactic(auto, unfolding(crate::specs::NodeTurns::turned))]
     pub fn turn(&self, words: &mut [u16], u: usize, up: usize, label: u16)
         requires { (u < length words.old) × (up < length words.old) }
         ensures { words.new ≡ turned self.now words.old u up label }
