@@ -4,7 +4,6 @@ use Rattle.std.specs.Prelude.{◌≡◌, List, get_or, replicate}
 use Rattle.std.proofs.Math.Path.{sym}
 use Rattle.std.proofs.Common.{◌∙◌, arith}
 use Rattle.std.proofs.Math.ListN.{length}
-use Rattle.meaning.specs.Forest.{parent_in}
 use Rattle.meaning.specs.Sections.{Node}
 use Rattle.meaning.specs.Satisfying.{parents_of, satisfies}
 use Rattle.shapes.specs.declared.Pattern.{Pattern}
@@ -21,7 +20,7 @@ use Rattle.matching.specs.GivenBits.{kids_in_word}
 use Rattle.matching.specs.Gave.{turn-gives}
 use Rattle.matching.specs.Filled.{Filled}
 use Rattle.matching.specs.Filling.{fill_starts, fill-goes_on, fill-ends}
-use Rattle.matching.specs.Nodes.{parent_from, length-parents_of, length-nodes_at, parent_at, label_at}
+use Rattle.shapes.specs.Nodes.{parent_from, length-nodes_at, parent_at, label_at, parent_lower}
 
 module _ (m : Masks) (bs : List ℕ) (at : ℕ) where
   -- the words after the turns of the first u nodes that stand from a place on, the last of them first
@@ -41,12 +40,6 @@ module _ (m : Masks) (bs : List ℕ) (at : ℕ) where
       → filled u words ≡ whole → filled k words' ≡ whole
   unfolding filled
   filled-goes_on words k e a b t f = rw (t, e, a, b) (rw e at f)
-
--- a node's parent has a lower number
-pub parent_lower : (bs : List ℕ) (at n : ℕ) → Rising (parents_of (nodes_at bs at n)) → (k : ℕ) → k < n → parent_from bs (at + 3 * k) ≤ k
-unfolding parent_in
-parent_lower bs at n rising k h =
-    rw (← parent_at bs at n k h) (rising.low k (omega (arith, length-parents_of (nodes_at bs at n), length-nodes_at bs at n)))
 
 module _ (bs : List ℕ) (at n : ℕ) (p : Pattern) (sound : WellFormed p) (rising : Rising (parents_of (nodes_at bs at n))) (bytes : Bytes bs)
     (m : Masks) (are : MasksOf (steps_in p) m) where

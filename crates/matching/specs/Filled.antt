@@ -19,7 +19,7 @@ use Rattle.laws.specs.Below.{ByChild, child_above, reaches_child, reaches_join, 
 use Rattle.laws.specs.Children.{children_of}
 use Rattle.matching.specs.NodeNotes.{noted, StepNumber}
 use Rattle.matching.specs.Giving.{is_far, fits, gives_up}
-use Rattle.matching.specs.Nodes.{length-parents_of}
+use Rattle.shapes.specs.Nodes.{length-parents_of}
 
 -- the axis of step k
 abbrev pub axis_at : List Step → ℕ → Axis

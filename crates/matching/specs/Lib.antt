@@ -4,7 +4,6 @@ pub mod Masks
 pub mod NodeTurns
 pub mod GivenBits
 pub mod Gave
-pub mod Nodes
 pub mod Filled
 pub mod Filling
 pub mod Document

@@ -1,8 +1,6 @@
 // A pattern as masks: words of 16 bits in which bit k - 1 is step k.
-ghost use Rattle.std.specs.Prelude.{◌<◌, ◌≡◌};
-ghost use Rattle.meaning.specs.Numbers.{most_steps};
+ghost use Rattle.std.specs.Prelude.{◌≡◌};
 ghost use Rattle.shapes.specs.Shapes.{steps_in, WellFormed};
-ghost use Rattle.laws.specs.Marks.{marked};
 ghost use Rattle.matching.specs.Masks.{MasksOf, cares_for};
 
 use meaning::MOST_STEPS;
@@ -19,25 +17,12 @@ pub struct Masks {
     pub far: u16,
 }
 
-// The word, with bit k in it where it is so.
-fn mark(word: u16, k: usize, so: bool) -> u16
-    requires { k < most_steps }
-    ensures { result ≡ marked word k so }
-{
-    if so {
-        return word | (1 << k);
-    }
-    word
-}
-
 // The bits of a node's label that matter to a step with this one: all, but none where it is any.
+#[tactic(auto, unfolding(crate::specs::Masks::cares_for, base::specs::Choice::pick))]
 fn cares_for(label: u8) -> u16
     ensures { result ≡ cares_for label }
 {
-    if label == 0 {
-        return 0;
-    }
-    255
+    if label == 0 { 0 } else { 255 }
 }
 
 // The masks of a pattern.
@@ -53,17 +38,13 @@ pub fn masks_of(p: Pattern) -> Masks
         far: 0,
     };
     let mut far: u16 = 0; // apart, or it would be stored and loaded again for each step
-    let mut k = 0;
-    while k < p.count {
-        let s = p.steps[k];
-        let q = s.parent as usize;
+    for (k, s) in p.steps().iter().enumerate() {
         let bit: u16 = 1 << k;
-        m.children[q] = m.children[q] | bit;
-        m.labels[k] = s.label as u16;
+        m.children[usize::from(s.parent)] |= bit;
+        m.labels[k] = u16::from(s.label);
         m.cares[k] = cares_for(s.label);
         m.own[k] = bit;
-        far = mark(far, k, s.axis != 0);
-        k += 1;
+        far |= u16::from(s.axis != 0) << k;
     }
     m.far = far;
     m

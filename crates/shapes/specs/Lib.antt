@@ -1,4 +1,5 @@
 pub mod Shapes
+pub mod Nodes
 pub mod Steps
 pub mod Holding
 pub mod TableValues

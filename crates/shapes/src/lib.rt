@@ -1,6 +1,8 @@
 // Patterns, entries and tables by value, and what each stands for (specs/Shapes.antt).
 #![tactic(auto)]
 
+pub mod nodes; // nodes.rt: the nodes of a document, as they stand in its bytes
+
 ghost use Rattle.std.specs.Prelude.{◌≡◌, ◌≤◌};
 ghost use Rattle.meaning.specs.Building.{steps_together};
 ghost use Rattle.shapes.specs.Shapes.{steps_in, entries_in, no_steps, table_of, WellFormed, WellFormedTable};

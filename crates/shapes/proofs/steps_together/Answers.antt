@@ -12,7 +12,7 @@ overflow_add-n c =
     let i = c.loop-e.e-index in
     let there = rw (c.entries-e-items.ensures, length-entries t c.requires) at c.loop-e-test.true in
     rw (c.entries-e-items.ensures, entry_held t c.requires i no_entry_value there)
-        (omega (arith, (entry-sound t c.requires i no_entry_value there).few, c.loop-e.invariant.few, c.requires.few))
+    (omega (arith, (entry-sound t c.requires i no_entry_value there).few, c.loop-e.invariant.few, c.requires.few))
 
 pub loop-e-preserved : goal.loop-e-preserved
 loop-e-preserved c =
@@ -20,7 +20,7 @@ loop-e-preserved c =
     let l = c.loop-e in
     let there = rw (c.entries-e-items.ensures, length-entries t c.requires) at c.loop-e-test.true in
     rw (c.entries-e-items.ensures, entry_held t c.requires l.e-index no_entry_value there)
-        (sum-goes_on t l.e-index l.n c.requires there l.invariant)
+    (sum-goes_on t l.e-index l.n c.requires there l.invariant)
 
 pub returns : goal.returns
 returns c =
