@@ -23,7 +23,7 @@ pub fn join_at(mut t: Table, p: Pattern, i: usize, j: usize) -> Table
 {
     let members = union(t.entries[i].members, t.entries[j].members);
     t.entries[i] = Entry {
-        members: members,
+        members,
         pattern: p,
     };
     remove(&mut t, j);
