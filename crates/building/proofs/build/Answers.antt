@@ -33,7 +33,7 @@ unfolding build_from
 returns c =
     let s = c.settle-settled in
     let l = c.loop-left in
-    let e = rounds-end l.invariant.0 (omega arith) in (
+    let e = rw c.from-most.ensures at (rounds-end l.invariant.0 (omega arith)) in (
       e.0 ∙ ap (λ es. (build_settled c.args.limit es).entries) s.ensures.0,
       e.1 ∙ ap (λ es. (build_settled c.args.limit es).rounds) s.ensures.0,
       omega (arith, l.invariant.0.few, ap steps_together s.ensures.0),
