@@ -11,11 +11,6 @@ loop-left-init c =
     let r = c.settle-settled in
     (rounds-start _ _, r.ensures.1, c.steps_together-left.ensures.0, omega arith)
 
-pub one_more-m-requires : goal.one_more-m-requires
-one_more-m-requires c =
-    let l = c.loop-left in
-    (l.invariant.1, omega (arith, l.invariant.0.few))
-
 pub loop-left-smaller : goal.loop-left-smaller
 loop-left-smaller c =
     let l = c.loop-left in

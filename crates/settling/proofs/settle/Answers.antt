@@ -1,12 +1,8 @@
 use native.Mathlib.Omega.{arith}
-use Rattle.shapes.specs.Shapes.{table_of}
 use Rattle.shapes.specs.TableValues.{no_entry_value, length-table, entry-sound}
-use Rattle.settling.specs.Settled.{search_starts, search_ends}
+use Rattle.settling.specs.Settled.{search_ends}
 use Rattle.settling.specs.SettlingLoop.{row_passed, one_less, goes_on-same, goes_on-higher}
 use Rattle.settling.proofs.settle.Goals as goal
-
-pub loop-i-init : goal.loop-i-init
-loop-i-init c = (search_starts (table_of c.args.t), c.requires)
 
 pub first_covered-requires : goal.first_covered-requires
 first_covered-requires c =

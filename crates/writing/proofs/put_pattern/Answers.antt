@@ -1,10 +1,8 @@
-use mathlib.Core.Path.{refl, ◌∙◌}
+use mathlib.Core.Path.{refl}
 use native.Mathlib.Omega.{arith}
 use native.Mathlib.Numerals.{add-one}
-use borrow.Author.Rules.{rules}
 use lib.ListN.{length-set}
-use lib.Seq.{length-sets}
-use Rattle.base.specs.Storing.{left-first, left-same, turn-room, turn-goes_on, turns_end}
+use Rattle.base.specs.Storing.{left-first, turn-room, turn-goes_on, turns_end}
 use Rattle.meaning.specs.Written.{step_bytes}
 use Rattle.meaning.specs.declared.Step.{Step}
 use Rattle.shapes.specs.Steps.{length-steps}
@@ -14,14 +12,8 @@ use Rattle.writing.proofs.put_pattern.Goals as goal
 abbrev no_step : Step
 no_step = record { parent = 0; axis = 0; label = 0 }
 
-pub overflow_cast-out : goal.overflow_cast-out
-overflow_cast-out c = search (rules, c.requires.0.few)
-
 pub bounds-out-at : goal.bounds-out-at
 bounds-out-at c = omega (arith, c.requires.1, pattern_length_lem _ c.requires.0)
-
-pub overflow_add-next : goal.overflow_add-next
-overflow_add-next c = search (rules, c.requires.1, pattern_length_lem _ c.requires.0)
 
 pub loop-s-init : goal.loop-s-init
 loop-s-init c =
@@ -39,11 +31,6 @@ put_step-requires c =
     let there = rw (c.steps-s-items.ensures, length-steps c.args.p c.requires.0) at c.loop-s-test.true in
     turn-room c.loop-s.invariant no_step there
 
-pub overflow_add-next-in-loop-s : goal.overflow_add-next-in-loop-s
-overflow_add-next-in-loop-s c =
-    let there = rw (c.steps-s-items.ensures, length-steps c.args.p c.requires.0) at c.loop-s-test.true in
-    search (rules, turn-room c.loop-s.invariant no_step there)
-
 pub loop-s-preserved : goal.loop-s-preserved
 unfolding step_bytes
 loop-s-preserved c =
@@ -51,9 +38,6 @@ loop-s-preserved c =
     let there = rw (c.steps-s-items.ensures, length-steps p c.requires.0) at c.loop-s-test.true in
     let stored = rw (c.steps-s-items.ensures, step_held p c.requires.0 c.loop-s.s-index no_step there) at c.put_step.ensures in
     turn-goes_on c.loop-s.invariant no_step there _ _ stored refl
-
-pub shape_of-out : goal.shape_of-out
-shape_of-out c = left-same c.loop-s.invariant.left ∙ simp (length-sets, length-set)
 
 pub returns : goal.returns
 returns c =

@@ -1,15 +1,10 @@
-use mathlib.Core.Path.{refl, ap, ◌∙◌}
+use mathlib.Core.Path.{refl, ap}
 use native.Mathlib.Omega.{arith}
-use borrow.Author.Rules.{rules}
 use lib.ListN.{length, length-set}
-use lib.Seq.{length-sets}
-use Rattle.base.specs.Storing.{left-first, left-same, turn-room, turn-goes_on, turns_end}
+use Rattle.base.specs.Storing.{left-first, turn-room, turn-goes_on, turns_end}
 use Rattle.shapes.specs.TableValues.{no_entry_value, entries_fit, length-entries, entry_held, entry-sound}
 use Rattle.writing.specs.BytesWritten.{table_bytes_lem}
 use Rattle.writing.proofs.put_table.Goals as goal
-
-pub overflow_cast-out : goal.overflow_cast-out
-overflow_cast-out c = search (rules, c.requires.0.few)
 
 pub bounds-out-0 : goal.bounds-out-0
 bounds-out-0 c = omega (arith, c.requires.1, ap length (table_bytes_lem _ c.requires.0))
@@ -40,9 +35,6 @@ loop-e-preserved c =
     let there = rw (c.entries-e-items.ensures, length-entries t sound) at c.loop-e-test.true in
     let stored = rw (c.entries-e-items.ensures, entry_held t sound c.loop-e.e-index no_entry_value there) at c.put_entry-at.ensures in
     turn-goes_on c.loop-e.invariant no_entry_value there _ _ stored.1 stored.0
-
-pub shape_of-out : goal.shape_of-out
-shape_of-out c = left-same c.loop-e.invariant.left ∙ simp (length-sets, length-set)
 
 pub returns : goal.returns
 returns c =

@@ -9,11 +9,6 @@ merge-made-requires c =
     let b = c.in-Some in
     (entry-sound _ c.requires b.best.i no_entry_value b.ensures.there.0, entry-sound _ c.requires b.best.j no_entry_value b.ensures.there.1)
 
-pub join_at-requires : goal.join_at-requires
-join_at-requires c =
-    let b = c.in-Some in
-    (c.requires, c.merge-made.ensures.sound, b.ensures.there.0, b.ensures.there.1)
-
 pub returns-in-Some : goal.returns-in-Some
 returns-in-Some c =
     let b = c.in-Some in
