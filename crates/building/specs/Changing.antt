@@ -1,5 +1,5 @@
 -- A merge of the pair found, or a cut where there is none.
-use Rattle.std.specs.Prelude.{◌<◌, ◌≡◌, get_or}
+use Rattle.std.specs.Prelude.{◌<◌, ◌≡◌, Option, Some, None, IfSome, get_or}
 use Rattle.std.proofs.Math.Path.{refl, subst}
 use Rattle.std.proofs.Common.{sym, ◌∙◌, arith}
 use Rattle.meaning.specs.Forest.{Forest}
@@ -13,21 +13,17 @@ use Rattle.building.specs.declared.rounds.Best.{Best}
 use Rattle.building.specs.Finding.{best_is, found_some, found_none}
 
 -- where no pair was found the definition cuts
-pub change_cut : (t : Table) (b : Best) → best_is b ≡ best_pair (table_of t) → b.saved ≡ 0
+pub change_cut : (t : Table) → best_is None ≡ best_pair (table_of t)
     → cut_largest (table_of t) ≡ merge_or_cut (best_pair (table_of t)) (table_of t)
 unfolding merge_or_cut
-change_cut t b e z = rw (← e, found_none b z) refl
+change_cut t e = rw (← e, found_none) refl
 
-module _ (t : Table) (b : Best) (s : WellFormedTable t) (e : best_is b ≡ best_pair (table_of t)) (h : b.saved ≡ 0 → ⊥) where
-  -- the pair found saves something
-  some : 0 < b.saved
-  some = omega arith
-
-  -- so it is the best pair of the definition
+module _ (t : Table) (b : Best) (s : WellFormedTable t) (e : best_is (Some b) ≡ best_pair (table_of t)) where
+  -- the pair found is the best pair of the definition
   found : best_pair (table_of t) ≡ best b.saved (pair b.i b.j)
-  found = sym e ∙ found_some b some
+  found = sym e ∙ found_some b
 
-  -- the pair found is two entries
+  -- it is two entries
   pub found_there : (b.i < t.count) × (b.j < t.count)
   unfolding Right pair
   found_there =
@@ -40,3 +36,9 @@ module _ (t : Table) (b : Best) (s : WellFormedTable t) (e : best_is b ≡ best_
       → join_at m (pair b.i b.j) (table_of t) ≡ merge_or_cut (best_pair (table_of t)) (table_of t)
   unfolding merge_or_cut entry_of pair
   change_merge m q = rw (found, entry_at_lem t s b.i no_entry_value found_there.0, entry_at_lem t s b.j no_entry_value found_there.1, q) refl
+
+-- where a pair was found it is two entries
+pub pair_there : (t : Table) (found : Option Best) → WellFormedTable t → best_is found ≡ best_pair (table_of t)
+    → IfSome found (λ b. (b.i < t.count) × (b.j < t.count))
+pair_there t None s e = tt
+pair_there t (Some b) s e = found_there t b s e

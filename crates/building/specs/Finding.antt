@@ -1,6 +1,7 @@
 -- The pair that saves most, found pair by pair.
-use Rattle.std.specs.Prelude.{ℕ, zero, suc, ◌+◌, ◌-◌, ◌≤◌, ◌<◌, ◌≡◌, refl, List, map, eqb, get_or}
-use Rattle.std.proofs.Common.{sym, ◌∙◌, arith, lt-ltb, le-ltb, eq-eqb, ne_eqb}
+use Rattle.std.specs.Prelude.{ℕ, ◌+◌, ◌-◌, ◌≤◌, ◌<◌, ◌≡◌, refl, List, map, Option, Some, None, get_or}
+use Rattle.std.proofs.Common.{arith, lt-ltb, le-ltb}
+use Rattle.std.specs.Option.{option_map_or}
 use Rattle.base.specs.Choice.{pick}
 use Rattle.base.specs.Lists.{numbers_from}
 use Rattle.base.specs.Numbering.{numbers-split, numbers-end}
@@ -12,39 +13,38 @@ use Rattle.shapes.specs.declared.Table.{Table}
 use Rattle.building.specs.declared.rounds.Best.{Best}
 use Rattle.building.specs.Saving.{saved_by}
 
--- the pair found, or nothing where it saves nothing
-unfoldable pub best_is : Best → Building.Best
-best_is b = pick (eqb b.saved 0) no_pair (best b.saved (pair b.i b.j))
+-- the pair found, or nothing
+unfoldable pub best_is : Option Best → Building.Best
+best_is None = no_pair
+best_is (Some b) = best b.saved (pair b.i b.j)
+
+-- how many steps it saves, 0 where there is none
+abbrev pub most_saved : Option Best → ℕ
+most_saved found = option_map_or (λ b. b.saved) found 0
 
 -- ---- one pair more
 
--- something is found where it saves some steps
-pub found_some : (b : Best) → 0 < b.saved → best_is b ≡ best b.saved (pair b.i b.j)
-unfolding best_is pick
-found_some b h = rw (ne_eqb b.saved 0 (λ e. omega arith))
+-- something is found where there is a pair
+pub found_some : (b : Best) → best_is (Some b) ≡ best b.saved (pair b.i b.j)
+unfolding best_is
+found_some b = refl
 
--- nothing where it saves none
-pub found_none : (b : Best) → b.saved ≡ 0 → best_is b ≡ no_pair
-unfolding best_is pick
-found_none b h = rw (eq-eqb b.saved 0 h)
+-- nothing where there is none
+pub found_none : best_is None ≡ no_pair
+unfolding best_is
+found_none = refl
 
 -- a pair that saves more is taken
-pub saves_more : (b : Best) (n i j : ℕ) → b.saved < n → better n (pair i j) (best_is b) ≡ best_is (record { saved = n; i = i; j = j })
-unfolding better pick
-saves_more b n i j h = go b.saved refl ∙ sym (found_some (record { saved = n; i = i; j = j }) (omega arith))
-  where
-    go : (m : ℕ) → b.saved ≡ m → better n (pair i j) (best_is b) ≡ best n (pair i j)
-    go zero e = rw (found_none b e, lt-ltb 0 n (omega arith))
-    go (suc m) e = rw (found_some b (omega arith), lt-ltb b.saved n h)
+pub saves_more : (b : Option Best) (n i j : ℕ) → most_saved b < n → better n (pair i j) (best_is b) ≡ best_is (Some (record { saved = n; i = i; j = j }))
+unfolding better pick best_is
+saves_more None n i j h = rw (lt-ltb 0 n h)
+saves_more (Some b) n i j h = rw (lt-ltb b.saved n h)
 
 -- on ties the first stays
-pub saves_no_more : (b : Best) (n i j : ℕ) → n ≤ b.saved → better n (pair i j) (best_is b) ≡ best_is b
-unfolding better pick
-saves_no_more b n i j h = go b.saved refl
-  where
-    go : (m : ℕ) → b.saved ≡ m → better n (pair i j) (best_is b) ≡ best_is b
-    go zero e = rw (found_none b e, le-ltb 0 n (omega arith))
-    go (suc m) e = rw (found_some b (omega arith), le-ltb b.saved n h)
+pub saves_no_more : (b : Option Best) (n i j : ℕ) → n ≤ most_saved b → better n (pair i j) (best_is b) ≡ best_is b
+unfolding better pick best_is
+saves_no_more None n i j h = rw (le-ltb 0 n h)
+saves_no_more (Some b) n i j h = rw (le-ltb b.saved n h)
 
 -- ---- a row: the pairs (i, j) with j after i
 
@@ -53,7 +53,7 @@ abbrev pub row_from : Table → ℕ → ℕ → List Pair
 row_from t i j = map (pair i) (numbers_from j (t.count - j))
 
 -- the best so far is b, and the pairs (i, j) from j on are still to be asked
-pub record InRow (t : Table) (i : ℕ) (found : Best) (j : ℕ) (b : Best) : Type 0 where
+pub record InRow (t : Table) (i : ℕ) (found : Option Best) (j : ℕ) (b : Option Best) : Type 0 where
   pub there : i < t.count
   pub reached : j ≤ t.count
   pub rest : best_of (table_of t) (row_from t i j) (best_is b) ≡ best_of (table_of t) (row_from t i (i + 1)) (best_is found)
@@ -65,10 +65,10 @@ unfolding saves saved_by entry_steps pair entry_of
 saves_at t i j s hi hj = rw (entry_at_lem t s i no_entry_value hi, entry_at_lem t s j no_entry_value hj)
 
 -- before the first pair of the row
-pub row_starts : (t : Table) (i : ℕ) (found : Best) → i < t.count → InRow t i found (i + 1) found
+pub row_starts : (t : Table) (i : ℕ) (found : Option Best) → i < t.count → InRow t i found (i + 1) found
 row_starts t i found h = record { there = h; reached = omega arith; rest = refl }
 
-module _ {t : Table} {i : ℕ} {found : Best} {j : ℕ} {b : Best} (z : InRow t i found j b) where
+module _ {t : Table} {i : ℕ} {found : Option Best} {j : ℕ} {b : Option Best} (z : InRow t i found j b) where
   module _ {n : ℕ} (s : WellFormedTable t) (h : j < t.count)
       (e : n ≡ saved_by (pattern_of (get_or t.entries i no_entry_value).pattern) (pattern_of (get_or t.entries j no_entry_value).pattern)) where
     -- with one pair asked
@@ -77,11 +77,11 @@ module _ {t : Table} {i : ℕ} {found : Best} {j : ℕ} {b : Best} (z : InRow t 
     here = rw (e, ← saves_at t i j s z.there h) (rw (numbers-split j t.count h) at z.rest)
 
     -- it saves more and is taken
-    pub row_better : b.saved < n → InRow t i found (j + 1) (record { saved = n; i = i; j = j })
+    pub row_better : most_saved b < n → InRow t i found (j + 1) (Some (record { saved = n; i = i; j = j }))
     row_better l = record { there = z.there; reached = omega arith; rest = rw (saves_more b n i j l) at here }
 
     -- it saves no more and is not
-    pub row_no_better : n ≤ b.saved → InRow t i found (j + 1) b
+    pub row_no_better : n ≤ most_saved b → InRow t i found (j + 1) b
     row_no_better l = record { there = z.there; reached = omega arith; rest = rw (saves_no_more b n i j l) at here }
 
   -- after the last pair the row is asked

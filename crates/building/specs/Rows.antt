@@ -1,5 +1,5 @@
 -- The pairs i < j row by row, and the best of all.
-use Rattle.std.specs.Prelude.{ℕ, zero, suc, ◌+◌, ◌-◌, ◌≤◌, ◌<◌, ◌≡◌, refl, Bool, true, false, List, [], ◌∷◌, ◌++◌, map, ltb}
+use Rattle.std.specs.Prelude.{ℕ, zero, suc, ◌+◌, ◌-◌, ◌≤◌, ◌<◌, ◌≡◌, refl, Bool, true, false, List, [], ◌∷◌, ◌++◌, map, Option, None, ltb}
 use Rattle.std.proofs.Common.{◌∙◌, ap, arith, lt-ltb, ltb-true, ltb-false}
 use Rattle.base.specs.Choice.{pick}
 use Rattle.base.specs.Lists.{keep, numbers_from}
@@ -62,20 +62,20 @@ rows_split t i h =
     ∙ rw (row_ascends i 0 t.count (omega arith) (omega arith), left)
 
 -- the best so far is b, and the rows from i on are still to be asked
-pub record InRows (t : Table) (i : ℕ) (b : Best) : Type 0 where
+pub record InRows (t : Table) (i : ℕ) (b : Option Best) : Type 0 where
   pub reached : i ≤ t.count
   pub rest : best_of (table_of t) (rows_from t i) (best_is b) ≡ best_pair (table_of t)
 
 -- before the first row
-pub rows_start : (t : Table) → WellFormedTable t → InRows t 0 (record { saved = 0; i = 0; j = 0 })
+pub rows_start : (t : Table) → WellFormedTable t → InRows t 0 None
 unfolding best_pair pairs_below best_is pick
 rows_start t s =
     let all : t.count - 0 ≡ t.count = omega arith in
     record { reached = omega arith; rest = rw (length-table t s, all) refl }
 
-module _ {t : Table} {i : ℕ} {b : Best} (z : InRows t i b) where
+module _ {t : Table} {i : ℕ} {b : Option Best} (z : InRows t i b) where
   -- with one row asked
-  pub rows_go_on : i < t.count → {c : Best} → best_is c ≡ best_of (table_of t) (row_from t i (i + 1)) (best_is b) → InRows t (i + 1) c
+  pub rows_go_on : i < t.count → {c : Option Best} → best_is c ≡ best_of (table_of t) (row_from t i (i + 1)) (best_is b) → InRows t (i + 1) c
   rows_go_on h e = record {
     reached = omega arith;
     rest = rw e (rw (rows_split t i h, best_of-append) at z.rest);

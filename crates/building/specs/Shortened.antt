@@ -1,5 +1,5 @@
 -- A pattern by value without its last step.
-use Rattle.std.specs.Prelude.{ℕ, ◌-◌, ◌≤◌, ◌<◌, ◌≡◌, refl}
+use Rattle.std.specs.Prelude.{ℕ, zero, suc, ◌-◌, ◌≤◌, ◌<◌, ◌≡◌, refl}
 use Rattle.std.proofs.Common.{sym, ◌∙◌, arith}
 use Rattle.std.proofs.Math.Path.{ap}
 use Rattle.std.proofs.Math.ListN.{take}
@@ -43,3 +43,13 @@ cut-nothing p h = rw (zero_count) refl
   where
     zero_count : p.count ≡ 0
     zero_count = omega arith
+
+-- in either case it is the cut, and well formed
+pub cut_stands : (p : Pattern) → WellFormed p → (pattern_of (without_last p) ≡ cut (pattern_of p)) × WellFormed (without_last p)
+cut_stands p s = go p.count refl
+  where
+    go : (m : ℕ) → p.count ≡ m → (pattern_of (without_last p) ≡ cut (pattern_of p)) × WellFormed (without_last p)
+    go zero e =
+        let same : p.count - 1 ≡ p.count = omega arith in
+        rw same (cut-nothing p (omega arith), s)
+    go (suc m) e = (cut-shorter p s (omega arith), shorter-sound p s (omega arith))

@@ -19,16 +19,16 @@ pub struct Made {
     pub rounds: usize,
 }
 
-// One round more, and it is counted.
-fn one_more(m: Made) -> Made
-    requires { WellFormedTable m.table × (m.rounds < 1024) }
-    ensures { (table_of result.table ≡ round (table_of m.table)) × (result.rounds ≡ m.rounds + 1) × WellFormedTable result.table }
-{
-    let t = m.table;
-    let next = round(t);
-    Made {
-        table: next,
-        rounds: m.rounds + 1,
+impl Made {
+    // One round more, and it is counted.
+    fn one_more(self) -> Made
+        requires { WellFormedTable self.table × (self.rounds < 1024) }
+        ensures { (table_of result.table ≡ round (table_of self.table)) × (result.rounds ≡ self.rounds + 1) × WellFormedTable result.table }
+    {
+        Made {
+            table: round(self.table),
+            rounds: self.rounds + 1,
+        }
     }
 }
 
@@ -39,7 +39,7 @@ pub fn build(limit: u16, first: Table) -> Made
         × (result.rounds ≡ (build_from limit (table_of first)).rounds) × (result.rounds ≤ steps_together (settle (table_of first)))
         × WellFormedTable result.table }
 {
-    let most = limit as usize;
+    let most = usize::from(limit);
     let settled = settle(first);
     let mut m = Made {
         table: settled,
@@ -47,7 +47,7 @@ pub fn build(limit: u16, first: Table) -> Made
     };
     let mut left = steps_together(settled);
     while most < left {
-        m = one_more(m);
+        m = m.one_more();
         left = steps_together(m.table);
     }
     m

@@ -1,6 +1,8 @@
--- The bytes of members, the low byte first, as the loop that writes them goes.
+-- The bytes of members, the low byte first: how many, one after another, and those that a number has in memory.
 use Rattle.std.specs.Prelude.{ℕ, zero, suc, ◌+◌, ◌-◌, ◌/◌, ◌%◌, ◌≤◌, ◌<◌, ◌≡◌, refl, [], ◌∷◌, ◌++◌, length}
 use Rattle.std.proofs.Common.{ap}
+use Rattle.std.proofs.Math.Nat.{div-div-eq-div-mul}
+use Rattle.std.specs.Int.{to_le_bytes, w64}
 use Rattle.base.specs.Loops.{split, none_left}
 use Rattle.meaning.specs.Written.{number_bytes}
 
@@ -19,3 +21,8 @@ number-goes_on n k x h = rw (split n k h)
 pub number-end : (n k x : ℕ) → n ≤ k → number_bytes (n - k) x ≡ []
 unfolding number_bytes
 number-end n k x h = rw (none_left n k h)
+
+-- eight of them are those that the number has in memory
+pub members_in_memory : (x : ℕ) → to_le_bytes w64 x ≡ number_bytes 8 x
+unfolding number_bytes
+members_in_memory x = simp div-div-eq-div-mul

@@ -41,10 +41,7 @@ pub fn mark(set: u64, i: usize, said: bool) -> u64
     requires { i < most_patterns }
     ensures { result ≡ marked set i said }
 {
-    if said {
-        return union(set, alone(i));
-    }
-    set
+    if said { union(set, alone(i)) } else { set }
 }
 
 // Are there members, and all within a sheet of n subscriptions?
@@ -53,12 +50,12 @@ pub fn members_fit(members: u64, n: usize) -> bool
     ensures { result ≡ members_fit n members }
 {
     if members == 0 {
-        return false;
+        false
+    } else if n == MOST_PATTERNS {
+        true
+    } else {
+        members < alone(n)
     }
-    if n == MOST_PATTERNS {
-        return true;
-    }
-    members < alone(n)
 }
 
 // Eight bytes of members, the low byte first, from a place on.
@@ -66,13 +63,7 @@ pub fn put_members(out: &mut [u8], at: usize, members: u64)
     requires { at + 8 ≤ length out.old }
     ensures { out.new ≡ sets out.old at (number_bytes 8 members) }
 {
-    let mut left = members;
-    let mut k = 0;
-    while k < 8 {
-        out[at + k] = (left % 256) as u8;
-        left = left / 256;
-        k += 1;
-    }
+    out[at..at + 8].copy_from_slice(&members.to_le_bytes());
 }
 
 // How many sheds get a notice.

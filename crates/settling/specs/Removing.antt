@@ -1,9 +1,11 @@
--- An entry is removed: the later ones are moved down, one after another.
-use Prim.Native.Nat.{ℕ, zero, suc, ◌+◌, ◌≤◌, ◌<◌}
+-- An entry is removed: the later ones are moved down, one after another, or all by one copy.
+use Prim.Native.Nat.{ℕ, zero, suc, ◌+◌, ◌-◌, ◌≤◌, ◌<◌}
 use Rattle.std.specs.Prelude.{◌≡◌, length, get_or, set, take, drop}
+use Rattle.std.specs.List.{copy_within}
+use Rattle.std.proofs.Math.Seq.{paste, paste-suc}
 use Rattle.std.proofs.Math.Path.{refl, sym, ap}
-use Rattle.std.proofs.Common.{◌∙◌, arith, add-one, length-set, take-suc, take-suc-set, drop-set-lt, drop-drop, get_or-drop}
-use mathlib.Core.List.{List, [], ◌∷◌, ◌++◌, map, Memᴰ}
+use Rattle.std.proofs.Common.{◌∙◌, arith, add-zero, add-one, length-set, length-drop, take-suc, take-suc-set, drop-set-lt, drop-drop, get_or-drop, take-append-drop}
+use mathlib.Core.List.{List, [], ◌∷◌, ◌++◌, map, append-nil, Memᴰ}
 use Rattle.base.specs.Lists.{without}
 use Rattle.base.specs.Replacing.{length_without, without-gives}
 use Rattle.base.specs.Mapping.{without-after, without-take, map-without}
@@ -49,6 +51,24 @@ module _ {A : Type 0} where
       rest a =
           drop-set-lt (suc k) m k a (omega arith)
           ∙ (rw (add-one k) at (sym (drop-drop 1 k m) ∙ ap (drop 1) z.rest ∙ drop-drop 1 k l))
+
+  -- so many are moved down by a copy of them
+  down : (l : List A) (j n : ℕ) (d : A) → j + n < length l → Moved l j (j + n) (paste l j (drop (suc j) l) n)
+  down l j zero d h = rw (add-zero j, append-nil (take j l), take-append-drop j l) (moved_starts l j)
+  down l j (suc n) d h =
+      let m = paste l j (drop (suc j) l) n in
+      let z = down l j n d (omega arith) in
+      let value : get_or m (j + n + 1) d ≡ get_or (drop (suc j) l) n d =
+      sym (get_or-drop (j + n) m 1 d) ∙ ap (λ (xs : List A). get_or xs 1 d) z.rest ∙ get_or-drop (j + n) l 1 d
+      ∙ ap (λ (i : ℕ). get_or l i d) (omega arith) ∙ sym (get_or-drop (suc j) l n d) in
+      let more : j + n + 1 ≡ j + suc n = omega arith in
+      rw (value, paste-suc l j (drop (suc j) l) n d (omega arith) (omega (arith, length-drop (suc j) l)), more) at (moved-goes_on l m j (j + n) d (omega arith) z)
+
+  -- all up to the n-th are, where these are copied one place down
+  pub moved_down : (l : List A) (j n : ℕ) (d : A) (m : List A) → j < n → n ≤ length l → m ≡ copy_within l (j + 1) n j → Moved l j (n - 1) m
+  moved_down l j n d m h k e =
+      let many : j + (n - suc j) ≡ n - 1 = omega arith in
+      rw (e, add-one j, ← many) (down l j (n - suc j) d (omega arith))
 
 -- the table whose entries are so moved, one less
 module _ (t : Table) (s : WellFormedTable t) (j k : ℕ) (m : List Entry) (h : j < t.count) (e : suc k ≡ t.count) (z : Moved t.entries j k m) where

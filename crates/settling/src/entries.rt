@@ -8,33 +8,24 @@ use members::union;
 use shapes::{Entry, Pattern, Table};
 
 // Entry j is removed, and the later ones are moved down.
-fn remove(t: Table, j: usize) -> Table
-    requires { WellFormedTable t × (j < t.count) }
-    ensures { (table_of result ≡ without j (table_of t)) × WellFormedTable result }
+fn remove(t: &mut Table, j: usize)
+    requires { WellFormedTable t.old × (j < t.old.count) }
+    ensures { (table_of t.new ≡ without j (table_of t.old)) × WellFormedTable t.new }
 {
-    let last = t.count - 1;
-    let mut u = t;
-    let mut k = j;
-    while k < last {
-        let e = u.entries[k + 1];
-        u.entries[k] = e;
-        k += 1;
-    }
-    u.count = last;
-    u
+    t.entries.copy_within(j + 1..t.count, j);
+    t.count -= 1;
 }
 
 // The pattern stands at i with the members of i and j, and j is removed.
-pub fn join_at(t: Table, p: Pattern, i: usize, j: usize) -> Table
+pub fn join_at(mut t: Table, p: Pattern, i: usize, j: usize) -> Table
     requires { WellFormedTable t × WellFormed p × (i < t.count) × (j < t.count) }
     ensures { (table_of result ≡ join_at (pattern_of p) (pair i j) (table_of t)) × WellFormedTable result }
 {
-    let a = t.entries[i];
-    let b = t.entries[j];
-    let mut u = t;
-    u.entries[i] = Entry {
-        members: union(a.members, b.members),
+    let members = union(t.entries[i].members, t.entries[j].members);
+    t.entries[i] = Entry {
+        members,
         pattern: p,
     };
-    remove(u, j)
+    remove(&mut t, j);
+    t
 }

@@ -3,7 +3,7 @@
 
 pub mod entries; // entries.rt: joining two entries
 
-ghost use Rattle.std.specs.Prelude.{◌≡◌, ◌-◌, ◌<◌, ◌≤◌};
+ghost use Rattle.std.specs.Prelude.{◌≡◌, ◌-◌, ◌<◌, ◌≤◌, MatchOption};
 ghost use Rattle.base.specs.Loops.{scan};
 ghost use Rattle.meaning.specs.Building.{settle};
 ghost use Rattle.shapes.specs.Shapes.{table_of, WellFormedTable};
@@ -13,39 +13,32 @@ use crate::entries::join_at;
 use covering::covers;
 use shapes::Table;
 
-// The first entry from j on that entry i covers, itself aside, or the count where there is none.
-fn first_covered(t: Table, i: usize, j: usize) -> usize
-    requires { WellFormedTable t × (i < t.count) × (j ≤ t.count) }
-    ensures { result ≡ scan (covers_at (table_of t) i) (t.count - j) j }
+// The first entry from a place on that entry i covers, itself aside.
+fn first_covered(t: &Table, i: usize, from: usize) -> Option<usize>
+    requires { WellFormedTable t.now × (i < t.now.count) × (from ≤ t.now.count) }
+    ensures { MatchOption result (t.now.count ≡ scan (covers_at (table_of t.now) i) (t.now.count - from) from)
+        (λ j. (j ≡ scan (covers_at (table_of t.now) i) (t.now.count - from) from) × (j < t.now.count)) }
 {
-    let e = t.entries[i];
-    let p = e.pattern;
-    let mut k = j;
-    while k < t.count {
-        if k != i {
-            let f = t.entries[k];
-            if covers(p, f.pattern) {
-                return k;
-            }
+    let p = t.entries[i].pattern;
+    for k in from..t.count {
+        if k != i && covers(p, t.entries[k].pattern) {
+            return Some(k);
         }
-        k += 1;
     }
-    k
+    None
 }
 
 // No pair is left where entry i covers entry j. What stands before the pair last found stays as it was, so the search goes on there.
-pub fn settle(t: Table) -> Table
+pub fn settle(mut t: Table) -> Table
     requires { WellFormedTable t }
     ensures { (table_of result ≡ settle (table_of t)) × WellFormedTable result }
 {
-    let mut u = t;
     let mut i = 0;
     let mut from = 0;
-    while i < u.count {
-        let j = first_covered(u, i, from);
-        if j < u.count {
-            let e = u.entries[i];
-            u = join_at(u, e.pattern, i, j);
+    while i < t.count {
+        if let Some(j) = first_covered(&t, i, from) {
+            let p = t.entries[i].pattern;
+            t = join_at(t, p, i, j);
             from = j;
             if j < i {
                 i -= 1;
@@ -55,5 +48,5 @@ pub fn settle(t: Table) -> Table
             from = 0;
         }
     }
-    u
+    t
 }

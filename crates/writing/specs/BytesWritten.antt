@@ -4,6 +4,7 @@ use Rattle.std.proofs.Common.{sym, ◌∙◌, arith, length-append}
 use Rattle.std.proofs.Math.Path.{ap}
 use mathlib.Core.List.{List, [], ◌∷◌, flat_map}
 use Rattle.std.proofs.lemmas.List.Edits.{sets}
+use Rattle.std.proofs.Math.Seq.{get_or-take}
 use Rattle.base.specs.Storing.{sets-append, parts_from, parts_go_on, parts_end, flat_map-map}
 use Rattle.meaning.specs.Written.{step_bytes, pattern_bytes, number_bytes, entry_bytes, table_bytes}
 use Rattle.meaning.specs.declared.Step.{Step}
@@ -37,6 +38,11 @@ module _ (p : Pattern) (sound : WellFormed p) where
   -- one byte more for the count
   pub pattern_length_lem : length (pattern_bytes (pattern_of p)) ≡ 1 + 3 * p.count
   pattern_length_lem = ap length pattern_bytes_lem ∙ omega (arith, steps-length)
+
+  -- each step stands where it stands in the array
+  pub step_held : (k : ℕ) (d : Step) → k < p.count → get_or (steps_in p) k d ≡ get_or p.steps k d
+  unfolding steps_in
+  step_held k d h = get_or-take p.count p.steps k d h
 
 -- ---- tables
 

@@ -37,11 +37,9 @@ fn put_pattern(out: &mut [u8], at: usize, p: Pattern) -> usize
 {
     out[at] = p.count as u8;
     let mut next = at + 1;
-    let mut k = 0;
-    while k < p.count {
-        put_step(out, next, p.steps[k]);
+    for s in p.steps() {
+        put_step(out, next, *s);
         next += 3;
-        k += 1;
     }
     next
 }
@@ -74,11 +72,8 @@ pub fn table_length(t: Table) -> usize
     ensures { (result ≡ length (table_bytes (table_of t))) × (result ≤ 3649) }
 {
     let mut long = 1;
-    let mut i = 0;
-    while i < t.count {
-        let e = t.entries[i];
+    for e in t.entries() {
         long += 8 + pattern_length(e.pattern);
-        i += 1;
     }
     long
 }
@@ -90,10 +85,8 @@ fn put_table(out: &mut [u8], t: Table)
 {
     out[0] = t.count as u8;
     let mut at = 1;
-    let mut i = 0;
-    while i < t.count {
-        at = put_entry(out, at, t.entries[i]);
-        i += 1;
+    for e in t.entries() {
+        at = put_entry(out, at, *e);
     }
 }
 

@@ -11,11 +11,6 @@ loop-left-init c =
     let r = c.settle-settled in
     (rounds-start _ _, r.ensures.1, c.steps_together-left.ensures.0, omega arith)
 
-pub one_more-m-requires : goal.one_more-m-requires
-one_more-m-requires c =
-    let l = c.loop-left in
-    (l.invariant.1, omega (arith, l.invariant.0.few))
-
 pub loop-left-smaller : goal.loop-left-smaller
 loop-left-smaller c =
     let l = c.loop-left in
@@ -33,7 +28,7 @@ unfolding build_from
 returns c =
     let s = c.settle-settled in
     let l = c.loop-left in
-    let e = rounds-end l.invariant.0 (omega arith) in (
+    let e = rw c.from-most.ensures at (rounds-end l.invariant.0 (omega arith)) in (
       e.0 ∙ ap (λ es. (build_settled c.args.limit es).entries) s.ensures.0,
       e.1 ∙ ap (λ es. (build_settled c.args.limit es).rounds) s.ensures.0,
       omega (arith, l.invariant.0.few, ap steps_together s.ensures.0),

@@ -11,6 +11,6 @@ returns-then-said c =
     let a = c.args in
     pick_true _ _ a.set a.said c.if-said.true (c.union.ensures ∙ ap (bit_or a.set) c.alone.ensures)
 
-pub returns : goal.returns
+pub returns-else-said : goal.returns-else-said
 unfolding marked
-returns c = pick_false _ _ _ c.args.said c.if-said.false refl
+returns-else-said c = pick_false _ _ _ c.args.said c.if-said.false refl

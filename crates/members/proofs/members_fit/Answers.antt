@@ -9,5 +9,5 @@ returns-then-members-eq0 c = fit_none _ _ (omega arith)
 pub returns-then-n-eq-MOST_PATTERNS : goal.returns-then-n-eq-MOST_PATTERNS
 returns-then-n-eq-MOST_PATTERNS c = fit_all _ _ (omega arith) (omega arith) (omega arith)
 
-pub returns : goal.returns
-returns c = fit_below _ _ _ c.alone.ensures (omega arith)
+pub returns-else-n-eq-MOST_PATTERNS : goal.returns-else-n-eq-MOST_PATTERNS
+returns-else-n-eq-MOST_PATTERNS c = fit_below _ _ _ c.alone.ensures (omega arith)

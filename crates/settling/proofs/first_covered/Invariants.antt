@@ -1,5 +1,5 @@
 -- `first_covered` meets its contract: the search from the place reached gives what the whole search gives.
-use Prim.Native.Nat.{◌-◌, ◌≤◌}
+use Prim.Native.Nat.{◌-◌}
 use mathlib.Core.Path.{◌≡◌}
 use Rattle.base.specs.Loops.{scan}
 use Rattle.shapes.specs.Shapes.{table_of}
@@ -7,7 +7,4 @@ use Rattle.settling.specs.Settled.{covers_at}
 use Rattle.settling.proofs.first_covered.Given as goal
 
 abbrev pub invariant-loop-k : goal.invariant-loop-k
-invariant-loop-k l = (l.k ≤ l.t.count) × (scan (covers_at (table_of l.t) l.i) (l.t.count - l.k) l.k ≡ scan (covers_at (table_of l.t) l.i) (l.t.count - l.j) l.j)
-
-abbrev pub decreases-loop-k : goal.decreases-loop-k
-decreases-loop-k l = l.t.count - l.k
+invariant-loop-k l = scan (covers_at (table_of l.t) l.i) (l.t.count - l.k) l.k ≡ scan (covers_at (table_of l.t) l.i) (l.t.count - l.from) l.from

@@ -5,7 +5,7 @@ use Rattle.settling.specs.Settled.{Searched}
 use Rattle.settling.proofs.settle.Given as goal
 
 abbrev pub invariant-loop-i : goal.invariant-loop-i
-invariant-loop-i l = Searched (table_of l.initial.u) (table_of l.u) l.i l.from × WellFormedTable l.u
+invariant-loop-i l = Searched (table_of l.initial.t) (table_of l.t) l.i l.from × WellFormedTable l.t
 
 abbrev pub decreases-loop-i : goal.decreases-loop-i
-decreases-loop-i l = 2 * l.u.count - l.i
+decreases-loop-i l = 2 * l.t.count - l.i

@@ -1,19 +1,27 @@
 use native.Mathlib.Omega.{arith}
-use Rattle.shapes.specs.TableValues.{no_entry_value, entry-sound}
+use Rattle.shapes.specs.TableValues.{no_entry_value, length-entries, entry_held, entry-sound}
 use Rattle.writing.specs.BytesWritten.{measuring_starts, measuring_goes_on, measuring_ends}
 use Rattle.writing.proofs.table_length.Goals as goal
 
-pub loop-i-init : goal.loop-i-init
-loop-i-init c = measuring_starts _ c.requires
+pub loop-e-init : goal.loop-e-init
+loop-e-init c = measuring_starts _ c.requires
 
 pub pattern_length-requires : goal.pattern_length-requires
-pattern_length-requires c = entry-sound _ c.requires _ _ c.loop-i-test.true
+pattern_length-requires c =
+    let t = c.args.t in
+    let there = rw (c.entries-e-items.ensures, length-entries t c.requires) at c.loop-e-test.true in
+    rw (c.entries-e-items.ensures, entry_held t c.requires c.loop-e.e-index no_entry_value there) (entry-sound t c.requires c.loop-e.e-index no_entry_value there)
 
-pub loop-i-preserved : goal.loop-i-preserved
-loop-i-preserved c =
-    measuring_goes_on _ c.requires c.loop-i.invariant no_entry_value _ (omega arith) c.pattern_length.ensures
+pub loop-e-preserved : goal.loop-e-preserved
+loop-e-preserved c =
+    let t = c.args.t in
+    let l = c.loop-e in
+    let there = rw (c.entries-e-items.ensures, length-entries t c.requires) at c.loop-e-test.true in
+    let long = rw (c.entries-e-items.ensures, entry_held t c.requires l.e-index no_entry_value there) at c.pattern_length.ensures in
+    measuring_goes_on t c.requires l.invariant no_entry_value _ there long
 
 pub returns : goal.returns
 returns c =
     let sound = c.requires in
-    (measuring_ends _ sound c.loop-i.invariant (omega arith), omega (arith, sound.few))
+    let none_left = rw (c.entries-e-items.ensures, length-entries c.args.t sound) at c.loop-e-test.false in
+    (measuring_ends _ sound c.loop-e.invariant none_left, omega (arith, sound.few, c.loop-e.invariant.within, c.loop-e.invariant.small))

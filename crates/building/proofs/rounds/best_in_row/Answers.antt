@@ -1,27 +1,29 @@
-use Prim.Native.Nat.{◌<◌}
-use native.Mathlib.Omega.{arith}
+use Rattle.std.proofs.Common.{◌≡◌, ℕ, Option, Some, None, MatchOption, arith, rules}
 use Rattle.shapes.specs.TableValues.{no_entry_value, entry-sound}
-use Rattle.building.specs.Finding.{row_starts, row_better, row_no_better, row_ends}
+use Rattle.building.specs.declared.rounds.Best.{Best}
+use Rattle.building.specs.Finding.{most_saved, row_better, row_no_better, row_ends}
 use Rattle.building.proofs.rounds.best_in_row.Goals as goal
-use Rattle.building.proofs.rounds.best_in_row.Goals.{then-best-n, else-best-n}
+use Rattle.building.proofs.rounds.best_in_row.Goals.{then-map_or-saved, else-map_or-saved}
 
-pub loop-j-init : goal.loop-j-init
-loop-j-init c = row_starts _ _ _ c.requires.1
-
-pub saves-n-requires : goal.saves-n-requires
-saves-n-requires c =
+pub saves-saved-requires : goal.saves-saved-requires
+saves-saved-requires c =
     let s = c.requires in
     (entry-sound _ s.0 _ no_entry_value s.1, entry-sound _ s.0 c.loop-j.j no_entry_value (omega arith))
+
+-- what `map_or` gives, where its closure gives the steps saved
+most : (b : Option Best) (P : Best → Type 0) (r : ℕ) → MatchOption b (r ≡ 0) P → ((x : Best) → P x → r ≡ x.saved) → r ≡ most_saved b
+most None P r h k = h
+most (Some x) P r h k = k x h
 
 pub loop-j-preserved : goal.loop-j-preserved
 loop-j-preserved c =
     let l = c.loop-j in
-    let n = c.saves-n.ensures in
-    let h : l.j < c.args.t.count = omega arith in
-    elim c.if-best-n.branch [
-      | then-best-n w ↦ rw w.best-is (row_better l.invariant c.requires.0 h n w.if-best-n.true)
-      | else-best-n w ↦ rw w.best-is (row_no_better l.invariant c.requires.0 h n w.if-best-n.false)
+    let n = c.saves-saved.ensures in
+    let m = most l.best _ _ c.map_or.ensures (λ x p. search rules) in
+    elim c.if-map_or-saved.branch [
+      | then-map_or-saved w ↦ rw w.best-is (row_better l.invariant c.requires.0 c.loop-j-test.true n (omega arith))
+      | else-map_or-saved w ↦ rw w.best-is (row_no_better l.invariant c.requires.0 c.loop-j-test.true n (omega arith))
     ]
 
 pub returns : goal.returns
-returns c = row_ends c.loop-j.invariant (omega arith)
+returns c = row_ends c.loop-j.invariant c.loop-j-test.false

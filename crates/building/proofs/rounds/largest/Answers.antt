@@ -1,22 +1,21 @@
-use Prim.Native.Nat.{◌<◌}
-use native.Mathlib.Omega.{arith}
-use Rattle.building.specs.Largest.{largest_starts, larger, not_larger, largest-ends}
+use Rattle.shapes.specs.TableValues.{no_entry_value, length-entries, entry_held}
+use Rattle.building.specs.Largest.{larger, not_larger, largest-ends}
 use Rattle.building.proofs.rounds.largest.Goals as goal
-use Rattle.building.proofs.rounds.largest.Goals.{then-p-q, else-p-q}
-
-pub loop-j-init : goal.loop-j-init
-loop-j-init c = largest_starts c.args.t c.requires.1
+use Rattle.building.proofs.rounds.largest.Goals.{then-t-i, else-t-i}
 
 pub loop-j-preserved : goal.loop-j-preserved
 loop-j-preserved c =
+    let t = c.args.t.now in
     let l = c.loop-j in
-    let h : l.j < c.args.t.count = omega arith in
-    elim c.if-p-q.branch [
-      | then-p-q w ↦ rw w.i-is (larger l.invariant c.requires.0 h w.if-p-q.true)
-      | else-p-q w ↦ rw w.i-is (not_larger l.invariant c.requires.0 h w.if-p-q.false)
+    let there = rw (c.entries-e-items.ensures, length-entries t c.requires.0) at c.loop-j-test.true in
+    let e = entry_held t c.requires.0 l.j no_entry_value there in
+    elim c.if-t-i.branch [
+      | then-t-i w ↦ rw w.i-is (larger l.invariant c.requires.0 there (rw (c.entries-e-items.ensures, e) at w.if-t-i.true))
+      | else-t-i w ↦ rw w.i-is (not_larger l.invariant c.requires.0 there (rw (c.entries-e-items.ensures, e) at w.if-t-i.false))
     ]
 
 pub returns : goal.returns
 returns c =
     let l = c.loop-j in
-    (largest-ends l.invariant (omega arith), l.invariant.there)
+    let none_left = rw (c.entries-e-items.ensures, length-entries c.args.t.now c.requires.0) at c.loop-j-test.false in
+    (largest-ends l.invariant none_left, l.invariant.there)

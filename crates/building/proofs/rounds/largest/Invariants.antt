@@ -1,10 +1,6 @@
 -- `largest` meets its contract: the entries that are left give what all give.
-use Prim.Native.Nat.{◌-◌}
 use Rattle.building.specs.Largest.{Largest}
 use Rattle.building.proofs.rounds.largest.Given as goal
 
 abbrev pub invariant-loop-j : goal.invariant-loop-j
 invariant-loop-j l = Largest l.t l.i l.j
-
-abbrev pub decreases-loop-j : goal.decreases-loop-j
-decreases-loop-j l = l.t.count - l.j

@@ -10,5 +10,5 @@ remove-requires c =
 
 pub returns : goal.returns
 returns c =
-    let both = both_joined c.args.t c.requires.0 c.args.p c.args.i c.args.j c.requires.2 c.requires.3 _ c.union.ensures refl in
+    let both = both_joined c.args.t c.requires.0 c.args.p c.args.i c.args.j c.requires.2 c.requires.3 _ c.union-members.ensures refl in
     (c.remove.ensures.0 ∙ both, c.remove.ensures.1)
