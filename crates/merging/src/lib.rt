@@ -12,7 +12,7 @@ ghost use Rattle.merging.specs.Bodies.{body_for, body_at, Known};
 ghost use Rattle.merging.specs.Walks.{across_of};
 ghost use Rattle.merging.specs.Merges.{IsMerge};
 
-use covering::{PAIRS, covers_noting, lies_at};
+use covering::{Notes, PAIRS, covers_noting, lies_at};
 use meaning::{MOST_STEPS, Step};
 use offering::{Marked, branch, made, meet};
 use packing::{BODY, pack, unpack};
@@ -63,8 +63,8 @@ fn build_at(
     w: usize,
     own: usize,
     memo: &mut [[u8; BODY]; PAIRS],
-    there: &mut [u8; PAIRS],
-    back: &mut [u8; PAIRS],
+    there: &mut Notes,
+    back: &mut Notes,
 ) -> Marked
     requires { Known p q memo.old there.old back.old × (v ≤ p.count) × (w ≤ q.count) × (own ≤ 1) }
     ensures { Built own result (through most_steps (children_of (steps_in p) v) true own (children_of (steps_in q) w) nothing)
@@ -98,8 +98,8 @@ fn across(
     own: usize,
     built: Marked,
     memo: &mut [[u8; BODY]; PAIRS],
-    there: &mut [u8; PAIRS],
-    back: &mut [u8; PAIRS],
+    there: &mut Notes,
+    back: &mut Notes,
 ) -> Marked
     requires { Known p q memo.old there.old back.old × (1 ≤ v) × (v ≤ p.count) × (w ≤ q.count)
         × WellFormed built.pattern × (own + built.pattern.count ≤ most_steps) }
@@ -128,8 +128,8 @@ fn body_at(
     v: usize,
     w: usize,
     memo: &mut [[u8; BODY]; PAIRS],
-    there: &mut [u8; PAIRS],
-    back: &mut [u8; PAIRS],
+    there: &mut Notes,
+    back: &mut Notes,
 ) -> Marked
     requires { Known p q memo.old there.old back.old × (1 ≤ v) × (v ≤ p.count) × (1 ≤ w) × (w ≤ q.count) }
     ensures { IsBody result (body_for (steps_in p) (steps_in q) v w) × Known p q memo.new there.new back.new }
@@ -153,8 +153,8 @@ fn new_body(
     v: usize,
     w: usize,
     memo: &mut [[u8; BODY]; PAIRS],
-    there: &mut [u8; PAIRS],
-    back: &mut [u8; PAIRS],
+    there: &mut Notes,
+    back: &mut Notes,
 ) -> Marked
     requires { Known p q memo.old there.old back.old × (1 ≤ v) × (v ≤ p.count) × (1 ≤ w) × (w ≤ q.count) }
     ensures { IsBody result (body_for (steps_in p) (steps_in q) v w) × Known p q memo.new there.new back.new }
@@ -176,14 +176,14 @@ pub fn merge(p: Pattern, q: Pattern) -> Marked
     requires { WellFormed p × WellFormed q }
     ensures { IsMerge result (merge (pattern_of p) (pattern_of q)) }
 {
-    let mut there = [0; PAIRS];
+    let mut there = [None; PAIRS];
     if covers_noting(p, q, &mut there) {
         return Marked {
             pattern: p,
             clipped: false,
         };
     }
-    let mut back = [0; PAIRS];
+    let mut back = [None; PAIRS];
     if covers_noting(q, p, &mut back) {
         return Marked {
             pattern: q,
