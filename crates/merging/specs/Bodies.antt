@@ -1,5 +1,5 @@
 -- The body of a pair of steps, and the table that keeps each body once.
-use Rattle.std.specs.Prelude.{ℕ, ◌≤◌, ◌≡◌, Option, Bool, true, false, length, get_or, set, replicate}
+use Rattle.std.specs.Prelude.{ℕ, ◌≤◌, ◌≡◌, Bool, true, false, length, get_or, set, replicate}
 use Rattle.std.proofs.Math.Path.{sym}
 use Rattle.std.proofs.Common.{◌∙◌, ap, arith}
 use mathlib.Core.List.{List, []}
@@ -17,6 +17,7 @@ use Rattle.covering.specs.PairNotes.{PairOfSteps, Noted, cell_of, cell-filled, p
 use Rattle.offering.specs.declared.Marked.{Marked}
 use Rattle.offering.specs.Branches.{joined-branches, building_at}
 use Rattle.offering.specs.Offers.{building_of, Built}
+use Rattle.merging.specs.declared.Merging.{Merging}
 use Rattle.packing.specs.Packing.{Packed, body_length}
 use Rattle.meaning.specs.Numbers.{most_steps}
 
@@ -60,10 +61,12 @@ pub record Remembered (p q : Pattern) (memo : List (List ℕ)) : Type 0 where
   pub right : (v w : ℕ) → 1 ≤ v → v ≤ most_steps → 1 ≤ w → w ≤ most_steps → Slot (body_for (steps_in p) (steps_in q) v w) (get_or memo (cell_of v w) [])
 
 -- what is known of two patterns while they are merged: the bodies, and what of each can be laid where on the other
-pub record Known (p q : Pattern) (memo : List (List ℕ)) (there back : List (Option Bool)) : Type 0 where
-  pub bodies : Remembered p q memo
-  pub onto : Noted p q there
-  pub from : Noted q p back
+pub record Known (p q : Pattern) (m : Merging) : Type 0 where
+  pub first : m.p ≡ p
+  pub second : m.q ≡ q
+  pub bodies : Remembered p q m.bodies
+  pub onto : Noted p q m.there
+  pub from : Noted q p m.back
 
 -- the empty table
 pub nothing_known : (p q : Pattern) → Remembered p q (replicate pair_count (replicate body_length 0))
