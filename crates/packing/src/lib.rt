@@ -14,30 +14,19 @@ use shapes::no_steps;
 // The bytes of a body: its step count, its mark and three bytes a step.
 pub const BODY: usize = 3 * MOST_STEPS + 2;
 
-// A mark as a byte.
-fn mark_number(clipped: bool) -> u8
-    ensures { eqb result 1 ≡ clipped }
-{
-    if clipped { 1 } else { 0 }
-}
-
 // A body as it is kept in the table: its step count, its mark and three bytes a step.
 pub fn pack(b: Marked) -> [u8; BODY]
     requires { WellFormed b.pattern }
     ensures { WrittenSteps b.pattern b.clipped result b.pattern.count }
 {
     let p = b.pattern;
-    let mark = mark_number(b.clipped);
     let mut bytes = [0; BODY];
     bytes[0] = p.count as u8;
-    bytes[1] = mark;
-    let mut k = 0;
-    while k < p.count {
-        let s = p.steps[k];
+    bytes[1] = u8::from(b.clipped);
+    for (k, s) in p.steps().iter().enumerate() {
         bytes[2 + 3 * k] = s.parent;
         bytes[3 + 3 * k] = s.axis;
         bytes[4 + 3 * k] = s.label;
-        k += 1;
     }
     bytes
 }
@@ -48,16 +37,13 @@ pub fn unpack(bytes: [u8; BODY]) -> Marked
     ensures { Holds result.pattern (packed bytes) × (result.clipped ≡ eqb (get_or bytes 1 0) 1) }
 {
     let mut p = no_steps();
-    let n = bytes[0] as usize;
-    let mut k = 0;
-    while k < n {
+    for k in 0..usize::from(bytes[0]) {
         p.steps[k] = Step {
             parent: bytes[2 + 3 * k],
             axis: bytes[3 + 3 * k],
             label: bytes[4 + 3 * k],
         };
-        k += 1;
-        p.count = k;
+        p.count = k + 1;
     }
     Marked {
         pattern: p,
