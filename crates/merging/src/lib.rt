@@ -15,7 +15,6 @@ ghost use Rattle.merging.specs.Merges.{IsMerge};
 use covering::{Notes, PAIRS, covers_noting, lies_at};
 use meaning::{MOST_STEPS, Step};
 use offering::{Marked, branch, made, meet};
-use packing::{BODY, pack, unpack};
 use shapes::{Pattern, no_steps};
 
 // Step s is a near child of w.
@@ -49,7 +48,7 @@ fn common_label(l: u8, m: u8) -> u8
 struct Merging {
     p: Pattern,
     q: Pattern,
-    bodies: [[u8; BODY]; PAIRS],
+    bodies: [Option<Marked>; PAIRS],
     there: Notes,
     back: Notes,
 }
@@ -103,12 +102,11 @@ impl Merging {
         ensures { IsBody result (body_for (steps_in self.old.p) (steps_in self.old.q) v w) × Known self.old.p self.old.q self.new }
     {
         let cell = (v - 1) * MOST_STEPS + (w - 1);
-        let slot = self.bodies[cell];
-        if slot[0] != 0 {
-            return unpack(slot);
+        if let Some(kept) = self.bodies[cell] {
+            return kept;
         }
         let body = self.new_body(v, w);
-        self.bodies[cell] = pack(body);
+        self.bodies[cell] = Some(body);
         body
     }
 
@@ -151,7 +149,7 @@ pub fn merge(p: Pattern, q: Pattern) -> Marked
     let mut merging = Merging {
         p,
         q,
-        bodies: [[0; BODY]; PAIRS],
+        bodies: [None; PAIRS],
         there,
         back,
     };

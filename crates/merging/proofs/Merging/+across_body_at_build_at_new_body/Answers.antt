@@ -8,7 +8,6 @@ use Rattle.shapes.specs.Steps.{step_in, step-number}
 use Rattle.covering.specs.PairNotes.{PairOfSteps, cell_of}
 use Rattle.offering.specs.Offers.{IsBody}
 use Rattle.offering.specs.Candidates.{body_of-itself}
-use Rattle.packing.specs.Packing.{unpacked, kept-body}
 use Rattle.merging.specs.PairWalk.{near_child}
 use Rattle.merging.specs.Bodies.{takes_first, takes-second, makes, body-found, body_kept}
 use Rattle.merging.specs.Walks.{across_starts, across-step, through_starts, through-step}
@@ -53,33 +52,23 @@ across-returns t c =
     let i = c.loop-u.invariant in
     (walks_through i.0.onto.second i.1 (omega arith), i.0)
 
-pub body_at-unpack-requires : goal.body_at-unpack-requires
+pub body_at-returns-in-Some : goal.body_at-returns-in-Some
 unfolding cell_of
-body_at-unpack-requires t c =
+body_at-returns-in-Some t c =
     let pair : PairOfSteps c.args.v c.args.w = omega arith in
-    (body-found c.args.v c.args.w pair c.requires.0.bodies c.if-slot-ne0.true).few
-
-pub body_at-returns-then-slot-ne0 : goal.body_at-returns-then-slot-ne0
-unfolding cell_of
-body_at-returns-then-slot-ne0 t c =
-    let known = c.requires.0 in
-    let pair : PairOfSteps c.args.v c.args.w = omega arith in
-    let packed = body-found c.args.v c.args.w pair known.bodies c.if-slot-ne0.true in
-    (unpacked _ _ c.unpack.result packed c.unpack.ensures.0 c.unpack.ensures.1, known)
+    (body-found c.args.v c.args.w pair c.requires.0.bodies _ c.in-Some.is, c.requires.0)
 
 pub body_at-returns : goal.body_at-returns
 unfolding cell_of
 body_at-returns t c =
     let pair : PairOfSteps c.args.v c.args.w = omega arith in
-    let found = c.new_body-body in
-    let is = found.ensures.0 in
-    let known = found.ensures.1 in
-    let packed = kept-body found.result _ c.pack.result is c.pack.ensures in (
+    let is = c.new_body-body.ensures.0 in
+    let known = c.new_body-body.ensures.1 in (
       is,
       record {
         first = known.first;
         second = known.second;
-        bodies = body_kept c.args.v c.args.w pair known.bodies c.pack.result packed;
+        bodies = body_kept c.args.v c.args.w pair known.bodies c.new_body-body.result is;
         onto = known.onto;
         from = known.from;
       },
