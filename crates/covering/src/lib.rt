@@ -19,8 +19,8 @@ pub const PAIRS: usize = MOST_STEPS * MOST_STEPS;
 // What is noted of each pair: whether the children of the one lie below the other, once it was asked.
 pub type Notes = [Option<bool>; PAIRS];
 
-// The cell of the note about a pair of steps.
-fn cell(v: usize, w: usize) -> usize
+// The cell of a pair of steps, where there is one for each.
+pub fn cell(v: usize, w: usize) -> usize
     requires { PairOfSteps v w }
     ensures { (result ≡ cell_of v w) × (result < pair_count) }
 {

@@ -12,8 +12,8 @@ ghost use Rattle.merging.specs.Bodies.{body_for, body_at, Known};
 ghost use Rattle.merging.specs.Walks.{across_of};
 ghost use Rattle.merging.specs.Merges.{IsMerge};
 
-use covering::{Notes, PAIRS, covers_noting, lies_at};
-use meaning::{MOST_STEPS, Step};
+use covering::{Notes, PAIRS, cell, covers_noting, lies_at};
+use meaning::Step;
 use offering::{Marked, branch, made, meet};
 use shapes::{Pattern, no_steps};
 
@@ -101,12 +101,12 @@ impl Merging {
         requires { Known self.old.p self.old.q self.old × (1 ≤ v) × (v ≤ self.old.p.count) × (1 ≤ w) × (w ≤ self.old.q.count) }
         ensures { IsBody result (body_for (steps_in self.old.p) (steps_in self.old.q) v w) × Known self.old.p self.old.q self.new }
     {
-        let cell = (v - 1) * MOST_STEPS + (w - 1);
-        if let Some(kept) = self.bodies[cell] {
+        let at = cell(v, w);
+        if let Some(kept) = self.bodies[at] {
             return kept;
         }
         let body = self.new_body(v, w);
-        self.bodies[cell] = Some(body);
+        self.bodies[at] = Some(body);
         body
     }
 

@@ -5,7 +5,7 @@ use native.Mathlib.Omega.{arith}
 use Rattle.meaning.specs.Merging.{common_label}
 use Rattle.shapes.specs.Shapes.{no_steps-stand}
 use Rattle.shapes.specs.Steps.{step_in, step-number}
-use Rattle.covering.specs.PairNotes.{PairOfSteps, cell_of}
+use Rattle.covering.specs.PairNotes.{PairOfSteps}
 use Rattle.offering.specs.Offers.{IsBody}
 use Rattle.offering.specs.Candidates.{body_of-itself}
 use Rattle.merging.specs.PairWalk.{near_child}
@@ -53,13 +53,11 @@ across-returns t c =
     (walks_through i.0.onto.second i.1 (omega arith), i.0)
 
 pub body_at-returns-in-Some : goal.body_at-returns-in-Some
-unfolding cell_of
 body_at-returns-in-Some t c =
     let pair : PairOfSteps c.args.v c.args.w = omega arith in
-    (body-found c.args.v c.args.w pair c.requires.0.bodies _ c.in-Some.is, c.requires.0)
+    (body-found c.args.v c.args.w pair c.requires.0.bodies _ (rw c.cell-at.ensures.0 at c.in-Some.is), c.requires.0)
 
 pub body_at-returns : goal.body_at-returns
-unfolding cell_of
 body_at-returns t c =
     let pair : PairOfSteps c.args.v c.args.w = omega arith in
     let is = c.new_body-body.ensures.0 in
@@ -68,7 +66,7 @@ body_at-returns t c =
       record {
         first = known.first;
         second = known.second;
-        bodies = body_kept c.args.v c.args.w pair known.bodies c.new_body-body.result is;
+        bodies = rw c.cell-at.ensures.0 (body_kept c.args.v c.args.w pair known.bodies c.new_body-body.result is);
         onto = known.onto;
         from = known.from;
       },
