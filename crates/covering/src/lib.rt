@@ -7,7 +7,7 @@ ghost use Rattle.std.specs.Prelude.{◌≡◌, ◌≤◌, ◌<◌, length, set};
 ghost use Rattle.meaning.specs.Covering.{covers};
 ghost use Rattle.shapes.specs.Shapes.{pattern_of, steps_in, WellFormed};
 ghost use Rattle.covering.specs.Questions.{children_lie, some_fits, lies_at};
-ghost use Rattle.covering.specs.PairNotes.{pair_count, PairOfSteps, cell_of, note_of, known_at, Noted};
+ghost use Rattle.covering.specs.PairNotes.{pair_count, PairOfSteps, cell_of, known_at, Noted};
 
 use meaning::MOST_STEPS;
 use shapes::Pattern;
@@ -16,46 +16,45 @@ use steps::{any_or_same, may_lie_below, starred_leaf};
 // Pairs of steps, one of each of two patterns.
 pub const PAIRS: usize = MOST_STEPS * MOST_STEPS;
 
-// The cell of the note about a pair of steps.
-fn cell(v: usize, w: usize) -> usize
+// What is noted of each pair: whether the children of the one lie below the other, once it was asked.
+pub type Notes = [Option<bool>; PAIRS];
+
+// The cell of a pair of steps, where there is one for each.
+pub fn cell(v: usize, w: usize) -> usize
     requires { PairOfSteps v w }
     ensures { (result ≡ cell_of v w) × (result < pair_count) }
 {
     (v - 1) * MOST_STEPS + (w - 1)
 }
 
-// What is known of step v of A at step w of B before its children are asked: 1 that it lies there, 2 that it doesn't.
-// Where it may by itself, what is noted of its children decides.
-fn known_at(may: bool, v: usize, w: usize, notes: &[u8; PAIRS]) -> u8
+// What is known of step v of A at step w of B before its children are asked: whether it lies there. Where it may by itself,
+// what is noted of its children decides.
+fn known_at(may: bool, v: usize, w: usize, notes: &Notes) -> Option<bool>
     requires { PairOfSteps v w }
     ensures { result ≡ known_at may v w notes.now }
 {
-    if may { notes[cell(v, w)] } else { 2 }
+    if may { notes[cell(v, w)] } else { Some(false) }
 }
 
 // Notes whether the children of v lie below w, and hands the answer on.
-fn note(v: usize, w: usize, lie: bool, notes: &mut [u8; PAIRS]) -> bool
+fn note(v: usize, w: usize, lie: bool, notes: &mut Notes) -> bool
     requires { (length notes.old ≡ pair_count) × PairOfSteps v w }
-    ensures { (result ≡ lie) × (notes.new ≡ set notes.old (cell_of v w) (note_of lie)) }
+    ensures { (result ≡ lie) × (notes.new ≡ set notes.old (cell_of v w) (Some lie)) }
 {
-    notes[cell(v, w)] = if lie { 1 } else { 2 };
+    notes[cell(v, w)] = Some(lie);
     lie
 }
 
 // All children of step v of A find a place below step w of B.
 #[cycle(all_lie_some_fits)]
-fn all_lie(a: Pattern, v: usize, b: Pattern, w: usize, notes: &mut [u8; PAIRS]) -> bool
+fn all_lie(a: Pattern, v: usize, b: Pattern, w: usize, notes: &mut Notes) -> bool
     requires { Noted a b notes.old × (v ≤ a.count) × (w ≤ b.count) }
     ensures { (result ≡ children_lie (steps_in a) v (steps_in b) w) × Noted a b notes.new }
 {
-    let mut k = v;
-    while k < a.count {
+    for k in v..a.count {
         let s = a.steps[k];
-        k += 1;
-        if s.parent as usize == v {
-            if !some_fits(a, k, b, w, notes) {
-                return false;
-            }
+        if usize::from(s.parent) == v && !some_fits(a, k + 1, b, w, notes) {
+            return false;
         }
     }
     true
@@ -63,57 +62,49 @@ fn all_lie(a: Pattern, v: usize, b: Pattern, w: usize, notes: &mut [u8; PAIRS]) 
 
 // Some place below step w of B fits step k of A. The steps below w stand right after it, up to one whose parent is above w.
 #[cycle(all_lie_some_fits)]
-fn some_fits(a: Pattern, k: usize, b: Pattern, w: usize, notes: &mut [u8; PAIRS]) -> bool
+fn some_fits(a: Pattern, k: usize, b: Pattern, w: usize, notes: &mut Notes) -> bool
     requires { Noted a b notes.old × (1 ≤ k) × (k ≤ a.count) × (w ≤ b.count) }
     ensures { (result ≡ some_fits (steps_in a) k (steps_in b) w) × Noted a b notes.new }
 {
     let s = a.steps[k - 1];
     // What the next step hangs on, if there is one: on k itself only if k has child steps.
-    let mut next = 0;
-    if k < a.count {
-        let after = a.steps[k];
-        next = after.parent as usize;
-    }
+    let next = if k < a.count {
+        usize::from(a.steps[k].parent)
+    } else {
+        0
+    };
     let starred = starred_leaf(s, k, next);
-    let mut u = w;
-    while u < b.count {
+    for u in w..b.count {
         let t = b.steps[u];
-        if (t.parent as usize) < w {
+        if usize::from(t.parent) < w {
             return false;
         }
-        u += 1;
-        let known = known_at(may_lie_below(s, starred, w, t), k, u, notes);
-        if known == 1 {
+        let fits = match known_at(may_lie_below(s, starred, w, t), k, u + 1, notes) {
+            Some(known) => known,
+            None => note(k, u + 1, all_lie(a, k, b, u + 1, notes), notes),
+        };
+        if fits {
             return true;
-        }
-        if known != 2 {
-            if note(k, u, all_lie(a, k, b, u, notes), notes) {
-                return true;
-            }
         }
     }
     false
 }
 
 // Step v of A can be laid at step w of B: label and children, axes aside.
-pub fn lies_at(a: Pattern, v: usize, b: Pattern, w: usize, notes: &mut [u8; PAIRS]) -> bool
+pub fn lies_at(a: Pattern, v: usize, b: Pattern, w: usize, notes: &mut Notes) -> bool
     requires { Noted a b notes.old × (1 ≤ v) × (v ≤ a.count) × (1 ≤ w) × (w ≤ b.count) }
     ensures { (result ≡ lies_at (steps_in a) v (steps_in b) w) × Noted a b notes.new }
 {
     let s = a.steps[v - 1];
     let t = b.steps[w - 1];
-    let known = known_at(any_or_same(s.label, t.label), v, w, notes);
-    if known == 1 {
-        return true;
+    match known_at(any_or_same(s.label, t.label), v, w, notes) {
+        Some(known) => known,
+        None => note(v, w, all_lie(a, v, b, w, notes), notes),
     }
-    if known == 2 {
-        return false;
-    }
-    note(v, w, all_lie(a, v, b, w, notes), notes)
 }
 
 // A covers B, by notes of earlier questions about the two.
-pub fn covers_noting(a: Pattern, b: Pattern, notes: &mut [u8; PAIRS]) -> bool
+pub fn covers_noting(a: Pattern, b: Pattern, notes: &mut Notes) -> bool
     requires { Noted a b notes.old }
     ensures { (result ≡ covers (pattern_of a) (pattern_of b)) × Noted a b notes.new }
 {
@@ -125,6 +116,6 @@ pub fn covers(a: Pattern, b: Pattern) -> bool
     requires { WellFormed a × WellFormed b }
     ensures { result ≡ covers (pattern_of a) (pattern_of b) }
 {
-    let mut notes = [0; PAIRS];
+    let mut notes = [None; PAIRS];
     covers_noting(a, b, &mut notes)
 }

@@ -37,7 +37,7 @@ fn may_lie(s: Step, starred: bool, t: Step) -> bool
 pub fn may_lie_below(s: Step, starred: bool, w: usize, t: Step) -> bool
     ensures { result ≡ may_lie_below s starred w t }
 {
-    if s.axis == 0 && t.parent as usize != w {
+    if s.axis == 0 && usize::from(t.parent) != w {
         return false;
     }
     may_lie(s, starred, t)

@@ -1,8 +1,8 @@
 -- The body of a pair of steps, and the table that keeps each body once.
-use Rattle.std.specs.Prelude.{ℕ, ◌≤◌, ◌≡◌, Bool, true, false, length, get_or, set, replicate}
+use Rattle.std.specs.Prelude.{ℕ, ◌≤◌, ◌≡◌, Option, None, Some, Bool, true, false, length, get_or, set, replicate}
 use Rattle.std.proofs.Math.Path.{sym}
-use Rattle.std.proofs.Common.{◌∙◌, ap, arith}
-use mathlib.Core.List.{List, []}
+use Rattle.std.proofs.Common.{◌∙◌, arith}
+use mathlib.Core.List.{List}
 use Rattle.std.proofs.Math.ListN.{length-set}
 use Rattle.std.proofs.lemmas.List.{length-replicate, get_or-replicate}
 use Rattle.base.specs.Choice.{pick}
@@ -16,8 +16,8 @@ use Rattle.covering.specs.Questions.{children_lie, lies_at}
 use Rattle.covering.specs.PairNotes.{PairOfSteps, Noted, cell_of, cell-filled, pair_count}
 use Rattle.offering.specs.declared.Marked.{Marked}
 use Rattle.offering.specs.Branches.{joined-branches, building_at}
-use Rattle.offering.specs.Offers.{building_of, Built}
-use Rattle.packing.specs.Packing.{Packed, body_length}
+use Rattle.offering.specs.Offers.{building_of, Built, IsBody}
+use Rattle.merging.specs.declared.Merging.{Merging}
 use Rattle.meaning.specs.Numbers.{most_steps}
 
 -- the body of step v of p at step w of q
@@ -51,40 +51,43 @@ module _ (a b : List Step) (v w : ℕ) where
 -- ---- the table
 
 -- a slot is empty, or holds a body
-unfoldable pub Slot : Body → List ℕ → Type 0
-Slot body bs = (get_or bs 0 0 ≡ 0 → ⊥) → Packed bs body
+unfoldable pub Slot : Body → Option Marked → Type 0
+Slot body slot = (m : Marked) → slot ≡ Some m → IsBody m body
 
 -- every slot holds, if anything, the body of its pair
-pub record Remembered (p q : Pattern) (memo : List (List ℕ)) : Type 0 where
+pub record Remembered (p q : Pattern) (memo : List (Option Marked)) : Type 0 where
   pub full : length memo ≡ pair_count
-  pub right : (v w : ℕ) → 1 ≤ v → v ≤ most_steps → 1 ≤ w → w ≤ most_steps → Slot (body_for (steps_in p) (steps_in q) v w) (get_or memo (cell_of v w) [])
+  pub right : (v w : ℕ) → 1 ≤ v → v ≤ most_steps → 1 ≤ w → w ≤ most_steps → Slot (body_for (steps_in p) (steps_in q) v w) (get_or memo (cell_of v w) None)
 
 -- what is known of two patterns while they are merged: the bodies, and what of each can be laid where on the other
-pub record Known (p q : Pattern) (memo : List (List ℕ)) (there back : List ℕ) : Type 0 where
-  pub bodies : Remembered p q memo
-  pub onto : Noted p q there
-  pub from : Noted q p back
+pub record Known (p q : Pattern) (m : Merging) : Type 0 where
+  pub first : m.p ≡ p
+  pub second : m.q ≡ q
+  pub bodies : Remembered p q m.bodies
+  pub onto : Noted p q m.there
+  pub from : Noted q p m.back
 
 -- the empty table
-pub nothing_known : (p q : Pattern) → Remembered p q (replicate pair_count (replicate body_length 0))
+pub nothing_known : (p q : Pattern) → Remembered p q (replicate pair_count None)
 unfolding Slot cell_of
 nothing_known p q = record {
-  full = length-replicate {A = List ℕ} pair_count (replicate body_length 0);
-  right = λ v w h i j k filled.
-      let empty = get_or-replicate {A = List ℕ} pair_count (cell_of v w) (replicate body_length 0) [] (omega arith) in
-      absurd (filled (ap (λ (bs : List ℕ). get_or bs 0 0) empty));
+  full = length-replicate {A = Option Marked} pair_count None;
+  right = λ v w h i j k m filled.
+      let empty = get_or-replicate {A = Option Marked} pair_count (cell_of v w) None None (omega arith) in
+      cc;
 }
 
-module _ {p q : Pattern} {memo : List (List ℕ)} (v w : ℕ) (pair : PairOfSteps v w) (h : Remembered p q memo) where
-  -- a slot that is not empty holds the body of its pair
-  pub body-found : (get_or (get_or memo (cell_of v w) []) 0 0 ≡ 0 → ⊥) → Packed (get_or memo (cell_of v w) []) (body_for (steps_in p) (steps_in q) v w)
+module _ {p q : Pattern} {memo : List (Option Marked)} (v w : ℕ) (pair : PairOfSteps v w) (h : Remembered p q memo) where
+  -- what a slot holds is the body of its pair
+  pub body-found : (m : Marked) → get_or memo (cell_of v w) None ≡ Some m → IsBody m (body_for (steps_in p) (steps_in q) v w)
   unfolding Slot
-  body-found filled = h.right v w pair.0 pair.1 pair.2 pair.3 filled
+  body-found m filled = h.right v w pair.0 pair.1 pair.2 pair.3 m filled
 
   -- a body that is kept at its pair
-  pub body_kept : (bs : List ℕ) → Packed bs (body_for (steps_in p) (steps_in q) v w) → Remembered p q (set memo (cell_of v w) bs)
+  pub body_kept : (m : Marked) → IsBody m (body_for (steps_in p) (steps_in q) v w) → Remembered p q (set memo (cell_of v w) (Some m))
   unfolding Slot
-  body_kept bs new = record {
-    full = length-set memo (cell_of v w) bs ∙ h.full;
-    right = cell-filled (λ x y. Slot (body_for (steps_in p) (steps_in q) x y)) memo v w pair bs [] h.full (λ filled. new) h.right;
+  body_kept m new = record {
+    full = length-set memo (cell_of v w) (Some m) ∙ h.full;
+    right = cell-filled (λ x y. Slot (body_for (steps_in p) (steps_in q) x y)) memo v w pair (Some m) None h.full
+        (λ n e. let same : m ≡ n = cc in rw (← same) new) h.right;
   }

@@ -1,7 +1,7 @@
 // The merge of two patterns by value: one of them, or what is built at the pair of their roots.
 #![tactic(auto)]
 
-ghost use Rattle.std.specs.Prelude.{◌+◌, ◌≤◌, ◌≡◌, true, ◌&&◌};
+ghost use Rattle.std.specs.Prelude.{◌+◌, ◌≤◌, ◌≡◌, true};
 ghost use Rattle.meaning.specs.Numbers.{most_steps};
 ghost use Rattle.meaning.specs.Merging.{nothing, common_label, through, merge};
 ghost use Rattle.shapes.specs.Shapes.{pattern_of, steps_in, WellFormed};
@@ -12,28 +12,16 @@ ghost use Rattle.merging.specs.Bodies.{body_for, body_at, Known};
 ghost use Rattle.merging.specs.Walks.{across_of};
 ghost use Rattle.merging.specs.Merges.{IsMerge};
 
-use covering::{PAIRS, covers_noting, lies_at};
-use meaning::{MOST_STEPS, Step};
+use covering::{Notes, PAIRS, cell, covers_noting, lies_at};
+use meaning::Step;
 use offering::{Marked, branch, made, meet};
-use packing::{BODY, pack, unpack};
 use shapes::{Pattern, no_steps};
 
 // Step s is a near child of w.
 fn near_child(s: Step, w: usize) -> bool
     ensures { result ≡ near_child w s }
 {
-    if s.parent as usize == w {
-        s.axis == 0
-    } else {
-        false
-    }
-}
-
-// Both hold.
-fn both(a: bool, b: bool) -> bool
-    ensures { result ≡ (a && b) }
-{
-    if a { b } else { false }
+    usize::from(s.parent) == w && s.axis == 0
 }
 
 // The body of a step as it is.
@@ -54,121 +42,89 @@ fn common_label(l: u8, m: u8) -> u8
     if l == m { l } else { 0 }
 }
 
-// What is built at the pair (v, w): all pairs below go by, v' ascending.
-#[cycle(across_body_at_build_at_new_body)]
-fn build_at(
+// Two patterns that are merged: the bodies of their pairs of steps, as far as they were found, and what is noted of p laid
+// on q and of q laid on p.
+#[derive(Drop)]
+struct Merging {
     p: Pattern,
     q: Pattern,
-    v: usize,
-    w: usize,
-    own: usize,
-    memo: &mut [[u8; BODY]; PAIRS],
-    there: &mut [u8; PAIRS],
-    back: &mut [u8; PAIRS],
-) -> Marked
-    requires { Known p q memo.old there.old back.old × (v ≤ p.count) × (w ≤ q.count) × (own ≤ 1) }
-    ensures { Built own result (through most_steps (children_of (steps_in p) v) true own (children_of (steps_in q) w) nothing)
-        × Known p q memo.new there.new back.new }
-{
-    let mut b = Marked {
-        pattern: no_steps(),
-        clipped: false,
-    };
-    let mut k = v;
-    while k < p.count {
-        let s = p.steps[k];
-        if (s.parent as usize) < v {
-            return b;
+    bodies: [Option<Marked>; PAIRS],
+    there: Notes,
+    back: Notes,
+}
+
+impl Merging {
+    // What is built at the pair (v, w): all pairs below go by, v' ascending.
+    #[cycle(across_body_at_build_at_new_body)]
+    fn build_at(&mut self, v: usize, w: usize, own: usize) -> Marked
+        requires { Known self.old.p self.old.q self.old × (v ≤ self.old.p.count) × (w ≤ self.old.q.count) × (own ≤ 1) }
+        ensures { Built own result (through most_steps (children_of (steps_in self.old.p) v) true own (children_of (steps_in self.old.q) w) nothing)
+            × Known self.old.p self.old.q self.new }
+    {
+        let mut b = Marked {
+            pattern: no_steps(),
+            clipped: false,
+        };
+        for k in v..self.p.count {
+            let s = self.p.steps[k];
+            if usize::from(s.parent) < v {
+                return b;
+            }
+            b = self.across(k + 1, near_child(s, v), w, own, b);
         }
-        k += 1;
-        let direct = near_child(s, v);
-        b = across(p, q, k, direct, w, own, b, memo, there, back);
+        b
     }
-    b
-}
 
-// Step v meets all steps below w, ascending.
-#[cycle(across_body_at_build_at_new_body)]
-fn across(
-    p: Pattern,
-    q: Pattern,
-    v: usize,
-    direct: bool,
-    w: usize,
-    own: usize,
-    built: Marked,
-    memo: &mut [[u8; BODY]; PAIRS],
-    there: &mut [u8; PAIRS],
-    back: &mut [u8; PAIRS],
-) -> Marked
-    requires { Known p q memo.old there.old back.old × (1 ≤ v) × (v ≤ p.count) × (w ≤ q.count)
-        × WellFormed built.pattern × (own + built.pattern.count ≤ most_steps) }
-    ensures { Built own result (across_of own direct (steps_in p) v (children_of (steps_in q) w) (building_of built))
-        × Known p q memo.new there.new back.new }
-{
-    let mut b = built;
-    let mut u = w;
-    while u < q.count {
-        let t = q.steps[u];
-        if (t.parent as usize) < w {
-            return b;
+    // Step v meets all steps below w, ascending.
+    #[cycle(across_body_at_build_at_new_body)]
+    fn across(&mut self, v: usize, direct: bool, w: usize, own: usize, built: Marked) -> Marked
+        requires { Known self.old.p self.old.q self.old × (1 ≤ v) × (v ≤ self.old.p.count) × (w ≤ self.old.q.count)
+            × WellFormed built.pattern × (own + built.pattern.count ≤ most_steps) }
+        ensures { Built own result (across_of own direct (steps_in self.old.p) v (children_of (steps_in self.old.q) w) (building_of built))
+            × Known self.old.p self.old.q self.new }
+    {
+        let mut b = built;
+        for u in w..self.q.count {
+            let t = self.q.steps[u];
+            if usize::from(t.parent) < w {
+                return b;
+            }
+            let body = self.body_at(v, u + 1);
+            b = meet(b, body, direct && near_child(t, w), own);
         }
-        u += 1;
-        let body = body_at(p, q, v, u, memo, there, back);
-        b = meet(b, body, both(direct, near_child(t, w)), own);
+        b
     }
-    b
-}
 
-// The body of a pair: as it is kept, or found now and kept.
-#[cycle(across_body_at_build_at_new_body)]
-fn body_at(
-    p: Pattern,
-    q: Pattern,
-    v: usize,
-    w: usize,
-    memo: &mut [[u8; BODY]; PAIRS],
-    there: &mut [u8; PAIRS],
-    back: &mut [u8; PAIRS],
-) -> Marked
-    requires { Known p q memo.old there.old back.old × (1 ≤ v) × (v ≤ p.count) × (1 ≤ w) × (w ≤ q.count) }
-    ensures { IsBody result (body_for (steps_in p) (steps_in q) v w) × Known p q memo.new there.new back.new }
-{
-    let cell = (v - 1) * MOST_STEPS + (w - 1);
-    let slot = memo[cell];
-    if slot[0] != 0 {
-        return unpack(slot);
+    // The body of a pair: as it is kept, or found now and kept.
+    #[cycle(across_body_at_build_at_new_body)]
+    fn body_at(&mut self, v: usize, w: usize) -> Marked
+        requires { Known self.old.p self.old.q self.old × (1 ≤ v) × (v ≤ self.old.p.count) × (1 ≤ w) × (w ≤ self.old.q.count) }
+        ensures { IsBody result (body_for (steps_in self.old.p) (steps_in self.old.q) v w) × Known self.old.p self.old.q self.new }
+    {
+        let at = cell(v, w);
+        if let Some(kept) = self.bodies[at] {
+            return kept;
+        }
+        let body = self.new_body(v, w);
+        self.bodies[at] = Some(body);
+        body
     }
-    let body = new_body(p, q, v, w, memo, there, back);
-    let bytes = pack(body);
-    memo[cell] = bytes;
-    body
-}
 
-// That of v if it can be laid at w, otherwise that of w if it can be laid at v, otherwise what is built there.
-#[cycle(across_body_at_build_at_new_body)]
-fn new_body(
-    p: Pattern,
-    q: Pattern,
-    v: usize,
-    w: usize,
-    memo: &mut [[u8; BODY]; PAIRS],
-    there: &mut [u8; PAIRS],
-    back: &mut [u8; PAIRS],
-) -> Marked
-    requires { Known p q memo.old there.old back.old × (1 ≤ v) × (v ≤ p.count) × (1 ≤ w) × (w ≤ q.count) }
-    ensures { IsBody result (body_for (steps_in p) (steps_in q) v w) × Known p q memo.new there.new back.new }
-{
-    if lies_at(p, v, q, w, there) {
-        return taken(p, v);
+    // That of v if it can be laid at w, otherwise that of w if it can be laid at v, otherwise what is built there.
+    #[cycle(across_body_at_build_at_new_body)]
+    fn new_body(&mut self, v: usize, w: usize) -> Marked
+        requires { Known self.old.p self.old.q self.old × (1 ≤ v) × (v ≤ self.old.p.count) × (1 ≤ w) × (w ≤ self.old.q.count) }
+        ensures { IsBody result (body_for (steps_in self.old.p) (steps_in self.old.q) v w) × Known self.old.p self.old.q self.new }
+    {
+        if lies_at(self.p, v, self.q, w, &mut self.there) {
+            return taken(self.p, v);
+        }
+        if lies_at(self.q, w, self.p, v, &mut self.back) {
+            return taken(self.q, w);
+        }
+        let label = common_label(self.p.steps[v - 1].label, self.q.steps[w - 1].label);
+        made(label, self.build_at(v, w, 1))
     }
-    if lies_at(q, w, p, v, back) {
-        return taken(q, w);
-    }
-    let s = p.steps[v - 1];
-    let t = q.steps[w - 1];
-    let built = build_at(p, q, v, w, 1, memo, there, back);
-    made(common_label(s.label, t.label), built)
 }
 
 // The merge of p with q.
@@ -176,21 +132,26 @@ pub fn merge(p: Pattern, q: Pattern) -> Marked
     requires { WellFormed p × WellFormed q }
     ensures { IsMerge result (merge (pattern_of p) (pattern_of q)) }
 {
-    let mut there = [0; PAIRS];
+    let mut there = [None; PAIRS];
     if covers_noting(p, q, &mut there) {
         return Marked {
             pattern: p,
             clipped: false,
         };
     }
-    let mut back = [0; PAIRS];
+    let mut back = [None; PAIRS];
     if covers_noting(q, p, &mut back) {
         return Marked {
             pattern: q,
             clipped: false,
         };
     }
-    let empty = [0; BODY];
-    let mut memo = [empty; PAIRS];
-    build_at(p, q, 0, 0, 0, &mut memo, &mut there, &mut back)
+    let mut merging = Merging {
+        p,
+        q,
+        bodies: [None; PAIRS],
+        there,
+        back,
+    };
+    merging.build_at(0, 0, 0)
 }

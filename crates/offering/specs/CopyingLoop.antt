@@ -1,17 +1,34 @@
 -- The turns of the copying loop: what is copied so far, with what is left of the block, is the whole copy.
-use Rattle.std.specs.Prelude.{ℕ, suc, ◌+◌, ◌-◌, ◌≤◌, ◌<◌, ◌≡◌, length, set}
+use Rattle.std.specs.Prelude.{ℕ, suc, ◌+◌, ◌-◌, ◌≤◌, ◌<◌, ◌≡◌, length, get_or, set, take, drop}
 use mathlib.Core.List.{List, [], ◌++◌, append_assoc, append-nil}
-use Rattle.std.proofs.Common.{arith}
+use Rattle.std.proofs.Common.{◌∙◌, ap, arith, length-drop, take_all}
+use Rattle.std.proofs.Math.Seq.{get_or-take}
+use Rattle.std.proofs.lemmas.List.{get_or-drop}
 use Rattle.meaning.specs.Forest.{steps_from}
 use Rattle.meaning.specs.declared.Step.{Step}
 use Rattle.shapes.specs.Shapes.{steps_in, WellFormed}
 use Rattle.shapes.specs.declared.Pattern.{Pattern}
-use Rattle.shapes.specs.Steps.{step_in}
+use Rattle.shapes.specs.Steps.{step_in, length-steps}
 use Rattle.shapes.specs.Holding.{Holds, holding, step_after, one_more}
 use Rattle.laws.specs.Children.{children_of}
 use Rattle.covering.specs.OverBlock.{over_from, over_starts, over_step, over_ends, over_done}
 use Rattle.offering.specs.Copying.{moved_step, copy_step, moved_block}
 use Rattle.meaning.specs.Numbers.{most_steps}
+
+-- the steps from place v on, as a part of those of a pattern
+module _ (p : Pattern) (sound : WellFormed p) {lent : List Step} (is : lent ≡ steps_in p) (v : ℕ) where
+  part_is : take (length lent - v) (drop v lent) ≡ drop v (steps_in p)
+  part_is = rw is (take_all (length (steps_in p) - v) (drop v (steps_in p)) (omega (arith, length-drop v (steps_in p))))
+
+  -- how many they are
+  pub part-length : length (take (length lent - v) (drop v lent)) ≡ p.count - v
+  part-length = ap length part_is ∙ length-drop v (steps_in p) ∙ ap (λ (n : ℕ). n - v) (length-steps p sound)
+
+  -- each is the pattern's
+  pub part_step : (i : ℕ) → v + i < p.count
+      → get_or (take (length lent - v) (drop v lent)) i (record { parent = 0; axis = 0; label = 0 }) ≡ step_in p (v + i)
+  unfolding step_in steps_in
+  part_step i h = rw (part_is, get_or-drop) (get_or-take p.count p.steps (v + i) (record { parent = 0; axis = 0; label = 0 }) h)
 
 -- what is copied, and what is to be copied of the steps from place k on
 unfoldable pub with_rest : ℕ → ℕ → ℕ → List Step → List Step → ℕ → List Step

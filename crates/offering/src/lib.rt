@@ -1,10 +1,9 @@
 // What is kept at a pair of steps while the merge of two patterns is built, and one candidate offered to it.
 #![tactic(auto)]
 
-ghost use Rattle.std.specs.Prelude.{suc, ◌+◌, ◌-◌, ◌≤◌, ◌<◌, ◌≡◌, ◌||◌, [], ◌∷◌, ◌++◌, length};
-ghost use Rattle.base.specs.Choice.{pick};
+ghost use Rattle.std.specs.Prelude.{suc, ◌+◌, ◌-◌, ◌≤◌, ◌<◌, ◌≡◌, [], ◌∷◌, ◌++◌, length};
 ghost use Rattle.meaning.specs.Numbers.{most_steps};
-ghost use Rattle.meaning.specs.Forest.{near, far, axis_of, none, step, steps_from};
+ghost use Rattle.meaning.specs.Forest.{axis_of, none, step, steps_from};
 ghost use Rattle.meaning.specs.Covering.{step_at};
 ghost use Rattle.meaning.specs.Merging.{offer, meet};
 ghost use Rattle.shapes.specs.Shapes.{pattern_of, steps_in, WellFormed};
@@ -34,8 +33,8 @@ fn one(axis: u8, label: u8) -> Pattern
         count: 1,
         steps: [Step {
             parent: 0,
-            axis: axis,
-            label: label,
+            axis,
+            label,
         }; MOST_STEPS],
     }
 }
@@ -45,20 +44,9 @@ fn moved(s: Step, v: usize, n: usize, top: u8) -> Step
     requires { (v ≤ s.parent) × (s.parent - v + n < 256) }
     ensures { result ≡ moved_step v n top s }
 {
-    let parent = s.parent as usize;
-    if parent == v {
-        Step {
-            parent: top,
-            axis: s.axis,
-            label: s.label,
-        }
-    } else {
-        Step {
-            parent: (parent - v + n) as u8,
-            axis: s.axis,
-            label: s.label,
-        }
-    }
+    let was = usize::from(s.parent);
+    let parent = if was == v { top } else { (was - v + n) as u8 };
+    Step { parent, ..s }
 }
 
 // The steps below step v of p, put after the steps of r, the children of v hanging on `top`.
@@ -68,16 +56,12 @@ fn copied(r: Pattern, p: Pattern, v: usize, top: u8) -> Pattern
 {
     let n = r.count;
     let mut t = r;
-    let mut k = v;
-    while k < p.count {
-        let s = p.steps[k];
-        if (s.parent as usize) < v {
+    for s in &p.steps()[v..] {
+        if usize::from(s.parent) < v {
             return t;
         }
-        k += 1;
-        let m = t.count;
-        t.steps[m] = moved(s, v, n, top);
-        t.count = m + 1;
+        t.steps[t.count] = moved(*s, v, n, top);
+        t.count += 1;
     }
     t
 }
@@ -133,37 +117,16 @@ fn offer(b: Marked, c: Pattern, own: usize) -> Marked
     }
 }
 
-// Near is 0, far 1.
-fn axis_number(direct: bool) -> u8
-    ensures { (axis_of result ≡ pick direct near far) × (result ≤ 1) }
-{
-    if direct { 0 } else { 1 }
-}
-
-// One of two marks is set.
-fn either(a: bool, b: bool) -> bool
-    ensures { result ≡ (a || b) }
-{
-    if a { true } else { b }
-}
-
 // The candidate of a pair, by its body, is offered.
 pub fn meet(b: Marked, body: Marked, both: bool, own: usize) -> Marked
     requires { WellFormed b.pattern × (own + b.pattern.count ≤ most_steps) × IsBody body (body_in body) }
     ensures { Built own result (meet most_steps own both (body_in body) (building_of b)) }
 {
-    let so_far = b.pattern;
-    let given = body.pattern;
-    let c = branch(given, 1, axis_number(both));
-    let clipped = either(b.clipped, body.clipped);
-    offer(
-        Marked {
-            pattern: so_far,
-            clipped: clipped,
-        },
-        c,
-        own,
-    )
+    // Near is 0, far 1.
+    let axis = if both { 0 } else { 1 };
+    let c = branch(body.pattern, 1, axis);
+    let clipped = b.clipped || body.clipped;
+    offer(Marked { clipped, ..b }, c, own)
 }
 
 // The body with a label and the children that were built.
@@ -171,9 +134,8 @@ pub fn made(label: u8, built: Marked) -> Marked
     requires { WellFormed built.pattern × (1 + built.pattern.count ≤ most_steps) }
     ensures { IsBody result (record { label = label; kids = pattern_of built.pattern; clipped = built.clipped }) }
 {
-    let kept = built.pattern;
     Marked {
-        pattern: copied(one(0, label), kept, 0, 1),
+        pattern: copied(one(0, label), built.pattern, 0, 1),
         clipped: built.clipped,
     }
 }

@@ -15,12 +15,6 @@ decreases-some_fits l = 2 * (l.a.count - l.k) + 1
 abbrev pub invariant-all_lie-loop-k : goal.invariant-all_lie-loop-k
 invariant-all_lie-loop-k l = Noted l.a l.b l.notes × LayingChildren l.a l.v (steps_in l.b) l.w l.k
 
-abbrev pub decreases-all_lie-loop-k : goal.decreases-all_lie-loop-k
-decreases-all_lie-loop-k l = l.a.count - l.k
-
 -- some place from place u on fits exactly if some does
 abbrev pub invariant-some_fits-loop-u : goal.invariant-some_fits-loop-u
 invariant-some_fits-loop-u l = Noted l.a l.b l.notes × Fitting (steps_in l.a) l.k l.s l.starred l.b l.w l.u
-
-abbrev pub decreases-some_fits-loop-u : goal.decreases-some_fits-loop-u
-decreases-some_fits-loop-u l = l.b.count - l.u

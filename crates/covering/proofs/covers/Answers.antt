@@ -5,6 +5,3 @@ use Rattle.covering.proofs.covers.Goals as goal
 pub covers_noting-requires : goal.covers_noting-requires
 covers_noting-requires c =
     nothing-noted c.args.a c.args.b c.requires.0 c.requires.1
-
-pub returns : goal.returns
-returns c = c.covers_noting.ensures.0

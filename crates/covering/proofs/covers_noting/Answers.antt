@@ -1,14 +1,10 @@
 -- `covers_noting` meets its contract: the root is the parent of the root steps.
-use native.Mathlib.Omega.{arith}
 use Rattle.meaning.specs.Forest.{forest}
 use Rattle.meaning.specs.Covering.{covers}
 use Rattle.laws.specs.Children.{children_from, children_of}
 use Rattle.shapes.specs.Shapes.{pattern_of}
 use Rattle.covering.specs.Questions.{children_lie}
 use Rattle.covering.proofs.covers_noting.Goals as goal
-
-pub all_lie-requires : goal.all_lie-requires
-all_lie-requires c = (c.requires, omega arith, omega arith)
 
 pub returns : goal.returns
 unfolding covers pattern_of forest children_lie children_of children_from

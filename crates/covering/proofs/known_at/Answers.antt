@@ -1,4 +1,4 @@
--- `known_at` meets its contract: the pair's cell, or 2.
+-- `known_at` meets its contract: the pair's cell, or that the step doesn't lie there.
 use Rattle.base.specs.Choice.{picks}
 use Rattle.covering.specs.PairNotes.{known_at}
 use Rattle.covering.proofs.known_at.Goals as goal

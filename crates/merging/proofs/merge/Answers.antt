@@ -1,4 +1,5 @@
 -- `merging::merge` meets its contract: one covers the other, or it is built at the roots, with the notes of both questions.
+use mathlib.Core.Path.{refl}
 use mathlib.Core.Bool.{true}
 use native.Mathlib.Omega.{arith}
 use Rattle.covering.specs.PairNotes.{nothing-noted}
@@ -27,7 +28,7 @@ pub build_at-requires : goal.build_at-requires
 build_at-requires c =
     let onto = c.covers_noting.ensures.1 in
     let from = c.covers_noting-2.ensures.1 in (
-      record { bodies = nothing_known _ _; onto = search (onto, from); from = search (onto, from) },
+      record { first = refl; second = refl; bodies = nothing_known _ _; onto = search (onto, from); from = search (onto, from) },
       omega arith,
       omega arith,
       omega arith,

@@ -4,10 +4,10 @@ use Rattle.base.specs.Choice.{pick}
 use Rattle.offering.specs.Copying.{moved_step}
 use Rattle.offering.proofs.moved.Goals as goal
 
-pub returns-then-parent-v : goal.returns-then-parent-v
+pub returns-then-was-v : goal.returns-then-was-v
 unfolding moved_step pick
-returns-then-parent-v c = rw (eq-eqb _ _ c.if-parent-v.true)
+returns-then-was-v c = rw (eq-eqb _ _ (rw c.from-was.ensures at c.if-was-v.true))
 
-pub returns-else-parent-v : goal.returns-else-parent-v
+pub returns-else-was-v : goal.returns-else-was-v
 unfolding moved_step pick
-returns-else-parent-v c = rw (ne_eqb _ _ c.if-parent-v.false)
+returns-else-was-v c = rw (c.from-was.ensures, ne_eqb _ _ (rw c.from-was.ensures at c.if-was-v.false))

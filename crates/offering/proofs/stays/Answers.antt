@@ -15,15 +15,6 @@ branch-b-requires c =
     let i = c.loop-k.invariant.0 in
     (i.given, omega arith, omega arith, (next-turn i (omega arith)).axis)
 
-pub overflow_add-k-in-loop-k : goal.overflow_add-k-in-loop-k
-unfolding step_in branch_at
-overflow_add-k-in-loop-k c =
-    let i = c.loop-k.invariant.0 in
-    omega (arith, branch_fits i (omega arith) c.branch-b.ensures, i.given.few)
-
-pub covers-requires : goal.covers-requires
-covers-requires c = search (c.branch-b.ensures.sound, c.loop-k.invariant.1)
-
 pub copied-r-requires : goal.copied-r-requires
 unfolding step_in branch_at
 copied-r-requires c =

@@ -8,36 +8,34 @@ use Rattle.offering.specs.Offers.{building_of}
 use Rattle.merging.specs.PairWalk.{meet_all}
 use Rattle.merging.specs.Bodies.{Known}
 use Rattle.merging.specs.Walks.{pair_of, across_of, Walking}
-use Rattle.merging.proofs.+across_body_at_build_at_new_body.Given as goal
+use Rattle.merging.proofs.Merging.+across_body_at_build_at_new_body.Given as goal
 
 abbrev pub decreases-across : goal.decreases-across
-decreases-across l = 4 * (l.p.count - l.v) + 3
+decreases-across l = 4 * (l.self.now.p.count - l.v) + 3
 
 abbrev pub decreases-body_at : goal.decreases-body_at
-decreases-body_at l = 4 * (l.p.count - l.v) + 2
+decreases-body_at l = 4 * (l.self.now.p.count - l.v) + 2
 
 abbrev pub decreases-build_at : goal.decreases-build_at
-decreases-build_at l = 4 * (l.p.count - l.v)
+decreases-build_at l = 4 * (l.self.now.p.count - l.v)
 
 abbrev pub decreases-new_body : goal.decreases-new_body
-decreases-new_body l = 4 * (l.p.count - l.v) + 1
+decreases-new_body l = 4 * (l.self.now.p.count - l.v) + 1
 
 -- step v meets the steps below w from place u on
 abbrev pub invariant-across-loop-u : goal.invariant-across-loop-u
 invariant-across-loop-u l =
-    Known l.p l.q l.memo l.there l.back
-    × Walking l.q (pair_of l.own l.direct (steps_in l.p) l.v) l.w l.u l.own l.b
-    (across_of l.own l.direct (steps_in l.p) l.v (children_of (steps_in l.q) l.w) (building_of l.initial.b))
-
-abbrev pub decreases-across-loop-u : goal.decreases-across-loop-u
-decreases-across-loop-u l = l.q.count - l.u
+    let p = l.fn.self.p in
+    let q = l.fn.self.q in
+    Known p q l.self
+    × Walking q (pair_of l.own l.direct (steps_in p) l.v) l.w l.u l.own l.b
+    (across_of l.own l.direct (steps_in p) l.v (children_of (steps_in q) l.w) (building_of l.initial.b))
 
 -- the steps below v from place k on meet all below w
 abbrev pub invariant-build_at-loop-k : goal.invariant-build_at-loop-k
 invariant-build_at-loop-k l =
-    Known l.p l.q l.memo l.there l.back
-    × Walking l.p (meet_all l.own (children_of (steps_in l.q) l.w)) l.v l.k l.own l.b
-    (through most_steps (children_of (steps_in l.p) l.v) true l.own (children_of (steps_in l.q) l.w) nothing)
-
-abbrev pub decreases-build_at-loop-k : goal.decreases-build_at-loop-k
-decreases-build_at-loop-k l = l.p.count - l.k
+    let p = l.fn.self.p in
+    let q = l.fn.self.q in
+    Known p q l.self
+    × Walking p (meet_all l.own (children_of (steps_in q) l.w)) l.v l.k l.own l.b
+    (through most_steps (children_of (steps_in p) l.v) true l.own (children_of (steps_in q) l.w) nothing)
