@@ -24,10 +24,8 @@ pub fn put_bytes(out: &mut [u8], at: usize, text: &[u8]) -> usize
     ensures { written out.new result ≡ put (written out.old at) text.now }
 {
     let mut next = at;
-    let mut i = 0;
-    while i < text.len() {
-        next = put_byte(out, next, text[i]);
-        i += 1;
+    for b in text {
+        next = put_byte(out, next, *b);
     }
     next
 }
@@ -47,10 +45,10 @@ pub fn put_decimal(out: &mut [u8], at: usize, n: usize) -> usize
     ensures { written out.new result ≡ put (written out.old at) (decimal n) }
 {
     if n < 10 {
-        return put_byte(out, at, 48 + n as u8);
+        return put_byte(out, at, b'0' + n as u8);
     }
     let next = put_decimal(out, at, n / 10);
-    put_byte(out, next, 48 + (n % 10) as u8)
+    put_byte(out, next, b'0' + (n % 10) as u8)
 }
 
 // A number in decimal, and a text; the next place.

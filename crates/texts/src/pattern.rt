@@ -1,5 +1,5 @@
 // A pattern's text: / near, // far, * any; one child follows at once, several stand in brackets; a dot without steps.
-ghost use Rattle.std.specs.Prelude.{◌≡◌};
+ghost use Rattle.std.specs.Prelude.{◌≡◌, ◌==◌, drop, count_by};
 ghost use Rattle.meaning.specs.Forest.{axis_of};
 ghost use Rattle.meaning.specs.PatternText.{axis_text, label_text, several, pattern_text};
 ghost use Rattle.laws.specs.Children.{children_of};
@@ -38,7 +38,18 @@ fn put_step(out: &mut [u8], at: usize, s: &[u8], x: Step) -> usize
     ensures { written out.new result ≡ put (written out.old at) (step_text (labels_in s.now) x) }
 {
     let next = put_axis(out, at, x.axis);
-    put_label(out, next, s, x.label as usize)
+    put_label(out, next, s, usize::from(x.label))
+}
+
+// How many of the steps after the first v hang on step v, or on the root, which is 0.
+fn count_below(steps: &[Step], v: usize) -> usize
+    ensures { result ≡ count_by (λ x. x.parent == v) (drop v steps.now) }
+{
+    steps
+        .iter()
+        .skip(v)
+        .filter(|x| usize::from(x.parent) == v)
+        .count()
 }
 
 // Several branches below step v of a pattern, or below its root, which is 0.
@@ -46,16 +57,7 @@ fn several_below(p: Pattern, v: usize) -> bool
     requires { WellFormed p }
     ensures { result ≡ several (children_of (steps_in p) v) }
 {
-    let mut n: usize = 0;
-    let mut k = v;
-    while k < p.count {
-        let s = p.steps[k];
-        k += 1;
-        if s.parent as usize == v {
-            n += 1;
-        }
-    }
-    n > 1
+    count_below(p.steps(), v) > 1
 }
 
 // The branches below step v of a pattern, or below its root, which is 0: several stand in brackets; the next place.
@@ -66,15 +68,13 @@ fn put_below(out: &mut [u8], at: usize, s: &[u8], p: Pattern, v: usize) -> usize
 {
     let many = several_below(p, v);
     let mut next = at;
-    let mut k = v;
-    while k < p.count {
+    for k in v..p.count {
         let x = p.steps[k];
-        k += 1;
-        if x.parent as usize == v {
-            next = put_if(out, next, many, 91);
+        if usize::from(x.parent) == v {
+            next = put_if(out, next, many, b'[');
             next = put_step(out, next, s, x);
-            next = put_below(out, next, s, p, k);
-            next = put_if(out, next, many, 93);
+            next = put_below(out, next, s, p, k + 1);
+            next = put_if(out, next, many, b']');
         }
     }
     next

@@ -1,5 +1,5 @@
 -- The loop: what is left of the branches, put from here, gives what all of them give. The calls end since fewer steps are left.
-use Rattle.std.proofs.Common.{◌-◌, ◌≤◌}
+use Rattle.std.proofs.Common.{◌-◌}
 use Rattle.meaning.specs.PatternText.{branches_text}
 use Rattle.laws.specs.Children.{children_from}
 use Rattle.shapes.specs.Shapes.{steps_in}
@@ -12,9 +12,5 @@ decreases-put_below l = l.p.count - l.v
 
 abbrev pub invariant-loop-k : goal.invariant-loop-k
 invariant-loop-k l =
-    (l.v ≤ l.k)
-    × LeftToPut l.initial.out l.at (branches_text (labels_in l.s) l.many (children_from (steps_in l.p) l.v l.v))
+    LeftToPut l.initial.out l.at (branches_text (labels_in l.s) l.many (children_from (steps_in l.p) l.v l.v))
     l.out l.next (branches_text (labels_in l.s) l.many (children_from (steps_in l.p) l.v l.k))
-
-abbrev pub decreases-loop-k : goal.decreases-loop-k
-decreases-loop-k l = l.p.count - l.k

@@ -6,4 +6,4 @@ use Rattle.texts.proofs.pattern.put_step.Goals as goal
 pub returns : goal.returns
 unfolding step_text
 returns c =
-    put_then _ _ _ c.put_axis-next.ensures c.put_label.ensures
+    put_then _ _ _ c.put_axis-next.ensures (rw c.from.ensures at c.put_label.ensures)
