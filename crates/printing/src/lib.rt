@@ -24,12 +24,9 @@ fn put_members(out: &mut [u8], at: usize, members: u64, n: usize) -> usize
 {
     let mut next = at;
     let mut started = false;
-    let mut i = 0;
-    while i < n {
-        let k = i;
-        i += 1;
+    for k in 0..n {
         if is_member(members, k) {
-            next = put_if(out, next, started, 44);
+            next = put_if(out, next, started, b',');
             next = put_decimal(out, next, k);
             started = true;
         }
@@ -55,10 +52,10 @@ fn put_totals(
 }
 
 // A line for an entry, beside a sheet s of so many subscriptions; the next place.
-fn put_entry(out: &mut [u8], at: usize, s: &[u8], e: Entry, subscriptions: usize) -> usize
-    requires { WellFormed e.pattern × (subscriptions ≤ most_patterns) }
+fn put_entry(out: &mut [u8], at: usize, s: &[u8], e: &Entry, subscriptions: usize) -> usize
+    requires { WellFormed e.now.pattern × (subscriptions ≤ most_patterns) }
     ensures { written out.new result
-        ≡ put (written out.old at) (entry_text (labels_in s.now) subscriptions (entry_of e)) }
+        ≡ put (written out.old at) (entry_text (labels_in s.now) subscriptions (entry_of e.now)) }
 {
     let mut next = put_members(out, at, e.members, subscriptions);
     next = put_bytes(out, next, b": ");
@@ -74,10 +71,7 @@ pub fn put_table(out: &mut [u8], s: &[u8], t: Table, subscriptions: usize, round
 {
     let steps = steps_together(t);
     let mut next = put_totals(out, 0, subscriptions, t.count, steps, rounds);
-    let mut i = 0;
-    while i < t.count {
-        let e = t.entries[i];
-        i += 1;
+    for e in t.entries() {
         next = put_entry(out, next, s, e, subscriptions);
     }
     next

@@ -5,8 +5,5 @@ use Rattle.texts.specs.PutText.{LeftToPut}
 use Rattle.printing.specs.MemberTexts.{numbers_text, members_from}
 use Rattle.printing.proofs.put_members.Given as goal
 
-abbrev pub invariant-loop-i : goal.invariant-loop-i
-invariant-loop-i l = LeftToPut l.initial.out l.at (numbers_text false (members_from l.members 0 (l.n - 0))) l.out l.next (numbers_text l.started (members_from l.members l.i (l.n - l.i)))
-
-abbrev pub decreases-loop-i : goal.decreases-loop-i
-decreases-loop-i l = l.n - l.i
+abbrev pub invariant-loop-k : goal.invariant-loop-k
+invariant-loop-k l = LeftToPut l.initial.out l.at (numbers_text false (members_from l.members 0 (l.n - 0))) l.out l.next (numbers_text l.started (members_from l.members l.k (l.n - l.k)))
