@@ -5,4 +5,4 @@ use Rattle.texts.proofs.pattern.several_below.Goals as goal
 
 pub returns : goal.returns
 returns c =
-    rw (c.count_below.ensures, c.steps.ensures) (several_counted (steps_in c.args.p) c.args.v)
+    rw (c.count_below.ensures, c.steps.ensures) (several_counted (steps_in c.args.p.now) c.args.v)

@@ -4,13 +4,13 @@ use Rattle.meaning.specs.PatternText.{branches_text}
 use Rattle.laws.specs.Children.{children_from}
 use Rattle.shapes.specs.Shapes.{steps_in}
 use Rattle.labels.specs.LabelPlaces.{labels_in}
-use Rattle.texts.specs.PutText.{LeftToPut}
-use Rattle.texts.proofs.pattern.+put_below.Given as goal
+use Rattle.texts.specs.Puts.{StillToPut}
+use Rattle.texts.proofs.Text.+put_below.Given as goal
 
 abbrev pub decreases-put_below : goal.decreases-put_below
-decreases-put_below l = l.p.count - l.v
+decreases-put_below l = l.p.now.count - l.v
 
 abbrev pub invariant-loop-k : goal.invariant-loop-k
 invariant-loop-k l =
-    LeftToPut l.initial.out l.at (branches_text (labels_in l.s) l.many (children_from (steps_in l.p) l.v l.v))
-    l.out l.next (branches_text (labels_in l.s) l.many (children_from (steps_in l.p) l.v l.k))
+    StillToPut l.initial.self (branches_text (labels_in l.s) l.many (children_from (steps_in l.p) l.v l.v))
+    l.self (branches_text (labels_in l.s) l.many (children_from (steps_in l.p) l.v l.k))
