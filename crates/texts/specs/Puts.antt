@@ -1,17 +1,13 @@
 -- What is put into a lent output, from the place on where its next byte goes.
 use Rattle.std.specs.Prelude.{ℕ, ◌≡◌, refl, List, [], ◌++◌}
 use Rattle.std.proofs.Common.{ap, ◌∙◌}
-use Rattle.texts.specs.PutText.{Written, written, put, put-nothing, put_is, put_then, LeftToPut, left-first, left-goes_on, left-stays, left_none}
+use Rattle.texts.specs.PutText.{Written, written, put, put_is, put_then, LeftToPut, left-first, left-goes_on, left-stays, left_none}
 use Rattle.texts.specs.declared.Text.{Text}
 
 -- the bytes were put, and the output is still the one that was lent
 pub record Puts (before after : Text) (bytes : List ℕ) : Type 0 where
   pub same : after.out.ghost_name ≡ before.out.ghost_name
   pub puts : written after.out.now after.at ≡ put (written before.out.now before.at) bytes
-
--- nothing changes nothing
-pub puts-nothing : (t : Text) → Puts t t []
-puts-nothing t = record { same = refl; puts = put-nothing (written t.out.now t.at) }
 
 module _ {t u : Text} where
   -- the same bytes
