@@ -1,8 +1,7 @@
 // The call of each letter. All parts of a question are read before the call is made; each function here answers whether
 // there were all of them, and has then written the values of the line.
-use crate::input::{Long, Short};
 use crate::{input, output};
-use meaning::{Asked, Built, Lined, Merged, Output, Routed, Tabled};
+use meaning::{Refusal, number_given};
 
 // What each lent byte of an output holds before the call.
 const LENT: u8 = 165;
@@ -13,39 +12,38 @@ pub fn answer(l: u8) -> bool {
         output::text(b"unknown\n");
         return false;
     }
-    let mut s = io::large_buffer();
-    let n = input::bytes(&mut s);
-    if n.whole {
-        if call(l, &s[..n.count]) {
-            output::text(b"\n");
-            return true;
-        }
+    if question(l).is_none() {
+        output::text(b"cut\n");
+        return false;
     }
-    output::text(b"cut\n");
-    false
+    output::text(b"\n");
+    true
 }
 
 fn is_letter(l: u8) -> bool {
-    match l {
-        b'S'
-        | b'D'
-        | b'T'
-        | b'M'
-        | b'C'
-        | b'G'
-        | b'B'
-        | b'P'
-        | b'R'
-        | b'W'
-        | b'L'
-        | b'N'
-        | b'V'
-        | b'U' => true,
-        _ => false,
-    }
+    matches!(
+        l,
+        b'S' | b'D'
+            | b'T'
+            | b'M'
+            | b'C'
+            | b'G'
+            | b'B'
+            | b'P'
+            | b'R'
+            | b'W'
+            | b'L'
+            | b'N'
+            | b'V'
+            | b'U'
+    )
 }
 
-fn call(l: u8, s: &[u8]) -> bool {
+// The sheet, and then what else the call of that letter asks for.
+fn question(l: u8) -> Option<()> {
+    let mut buf = io::large_buffer();
+    let n = input::bytes(&mut buf)?;
+    let s = &buf[..n];
     match l {
         b'S' => sheet_check(s),
         b'D' => document_check(s),
@@ -55,183 +53,153 @@ fn call(l: u8, s: &[u8]) -> bool {
         b'G' => merge(s),
         b'B' => build(s),
         b'P' => plain_route(s),
-        b'R' | b'W' => with_table(l, s),
+        b'R' => with_table(s, table_route),
+        b'W' => with_table(s, wanted),
         b'L' => label(s),
-        b'N' | b'V' => with_bytes(l, s),
+        b'N' => with_bytes(s, read_line_to),
+        b'V' => with_bytes(s, write_pattern_to),
         b'U' => write_subscription(s),
-        _ => false,
+        _ => None,
     }
 }
 
-fn sheet_check(s: &[u8]) -> bool {
-    output::number(hub::sheet_check(s));
-    true
+fn sheet_check(s: &[u8]) -> Option<()> {
+    output::number(number_given(hub::sheet_check(s)));
+    Some(())
 }
 
-fn document_check(s: &[u8]) -> bool {
+fn document_check(s: &[u8]) -> Option<()> {
     let mut d = io::large_buffer();
-    let m = input::bytes(&mut d);
-    if !m.whole {
-        return false;
-    }
-    output::number(hub::document_check(s, &d[..m.count]));
-    true
+    let m = input::bytes(&mut d)?;
+    output::number(number_given(hub::document_check(s, &d[..m])));
+    Some(())
 }
 
-fn table_check(s: &[u8]) -> bool {
+fn table_check(s: &[u8]) -> Option<()> {
     let mut t = io::large_buffer();
-    let k = input::bytes(&mut t);
-    if !k.whole {
-        return false;
-    }
-    output::number(hub::table_check(s, &t[..k.count]));
-    true
+    let k = input::bytes(&mut t)?;
+    output::number(number_given(hub::table_check(s, &t[..k])));
+    Some(())
 }
 
-fn matches(s: &[u8]) -> bool {
+fn matches(s: &[u8]) -> Option<()> {
     let mut d = io::large_buffer();
-    let m = input::bytes(&mut d);
-    if !m.whole {
-        return false;
-    }
-    let Long::Is(i) = input::number() else {
-        return false;
-    };
-    asked(hub::matches(s, &d[..m.count], i));
-    true
+    let m = input::bytes(&mut d)?;
+    let i = input::number()?;
+    asked(hub::matches(s, &d[..m], i));
+    Some(())
 }
 
-fn covers(s: &[u8]) -> bool {
-    let Long::Is(i) = input::number() else {
-        return false;
-    };
-    let Long::Is(j) = input::number() else {
-        return false;
-    };
+fn covers(s: &[u8]) -> Option<()> {
+    let i = input::number()?;
+    let j = input::number()?;
     asked(hub::covers(s, i, j));
-    true
+    Some(())
 }
 
 // The number, and yes or no.
-fn asked(a: Asked) {
+fn asked(a: Result<bool, Refusal>) {
     match a {
-        Asked::Refused(n) => {
-            output::number(n);
-            output::truth(false);
-        }
-        Asked::Said(yes) => {
+        Ok(yes) => {
             output::number(0);
             output::truth(yes);
+        }
+        Err(why) => {
+            output::number(why.number());
+            output::truth(false);
         }
     }
 }
 
-fn merge(s: &[u8]) -> bool {
-    let Long::Is(i) = input::number() else {
-        return false;
-    };
-    let Long::Is(j) = input::number() else {
-        return false;
-    };
+fn merge(s: &[u8]) -> Option<()> {
+    let i = input::number()?;
+    let j = input::number()?;
     let mut out = [LENT; 65535];
-    let room = input::room(&out);
-    if !room.whole {
-        return false;
-    }
-    merge_to(s, i, j, &mut out[..room.count]);
-    true
+    let room = input::room(&out)?;
+    merge_to(s, i, j, &mut out[..room]);
+    Some(())
 }
 
 fn merge_to(s: &[u8], i: u64, j: u64, out: &mut [u8]) {
     match hub::merge(s, i, j, out) {
-        Merged::Refused(k) => {
-            output::number(k);
+        Ok(merged) => {
+            output::number(0);
+            output::value(merged.length as u64);
+            output::truth(merged.clipped);
+        }
+        Err(why) => {
+            output::number(why.number());
             output::value(0);
             output::truth(false);
-        }
-        Merged::Wrote { length, clipped } => {
-            output::number(0);
-            output::value(length as u64);
-            output::truth(clipped);
         }
     }
     output::bytes(out);
 }
 
-fn build(s: &[u8]) -> bool {
-    let Short::Is(limit) = input::limit() else {
-        return false;
-    };
+fn build(s: &[u8]) -> Option<()> {
+    let limit = input::limit()?;
     let mut out = [LENT; 65535];
-    let room = input::room(&out);
-    if !room.whole {
-        return false;
-    }
-    build_to(s, limit, &mut out[..room.count]);
-    true
+    let room = input::room(&out)?;
+    build_to(s, limit, &mut out[..room]);
+    Some(())
 }
 
 fn build_to(s: &[u8], limit: u16, out: &mut [u8]) {
     match hub::build(s, limit, out) {
-        Built::Refused(k) => {
-            output::number(k);
-            output::value(0);
-            output::value(0);
-        }
-        Built::Wrote { length, rounds } => {
+        Ok(built) => {
             output::number(0);
-            output::value(length as u64);
-            output::value(rounds as u64);
+            output::value(built.length as u64);
+            output::value(built.rounds as u64);
+        }
+        Err(why) => {
+            output::number(why.number());
+            output::value(0);
+            output::value(0);
         }
     }
     output::bytes(out);
 }
 
-fn plain_route(s: &[u8]) -> bool {
+fn plain_route(s: &[u8]) -> Option<()> {
     let mut d = io::large_buffer();
-    let m = input::bytes(&mut d);
-    if !m.whole {
-        return false;
+    let m = input::bytes(&mut d)?;
+    match hub::plain_route(s, &d[..m]) {
+        Ok(set) => delivered(0, set),
+        Err(why) => delivered(why.number(), 0),
     }
-    match hub::plain_route(s, &d[..m.count]) {
-        Routed::Refused(k) => delivered(k, 0),
-        Routed::Delivered(set) => delivered(0, set),
-    }
-    true
+    Some(())
 }
 
 // How many sheds and the lowest shed are asked of the set.
 fn delivered(number: u8, set: u64) {
     output::number(number);
     output::set(set);
-    output::value(hub::sheds(set) as u64);
-    output::value(hub::lowest_shed(set) as u64);
+    output::value(u64::from(hub::sheds(set)));
+    output::value(u64::from(hub::lowest_shed(set)));
 }
 
-// A table and a document: the route by the table, or whether anyone wants the document.
-fn with_table(l: u8, s: &[u8]) -> bool {
+// A table and a document, which the call takes beside the sheet.
+fn with_table<F: FnOnce(&[u8], &[u8], &[u8])>(s: &[u8], call: F) -> Option<()>
+    requires { F.IsAlwaysCallable call }
+{
     let mut t = io::large_buffer();
     let mut d = io::large_buffer();
-    let k = input::bytes(&mut t);
-    if !k.whole {
-        return false;
-    }
-    let m = input::bytes(&mut d);
-    if !m.whole {
-        return false;
-    }
-    if l == b'R' {
-        table_route(s, &t[..k.count], &d[..m.count]);
-    } else {
-        asked(hub::wanted(s, &t[..k.count], &d[..m.count]));
-    }
-    true
+    let k = input::bytes(&mut t)?;
+    let m = input::bytes(&mut d)?;
+    call(s, &t[..k], &d[..m]);
+    Some(())
 }
 
+// Whether anyone wants the document.
+fn wanted(s: &[u8], t: &[u8], d: &[u8]) {
+    asked(hub::wanted(s, t, d));
+}
+
+// The route by the table.
 fn table_route(s: &[u8], t: &[u8], d: &[u8]) {
     match hub::table_route(s, t, d) {
-        Tabled::Refused(number) => by_table(number, 0, 0),
-        Tabled::Delivered { set, tried } => by_table(0, set, tried as u64),
+        Ok(route) => by_table(0, route.set, route.tried as u64),
+        Err(why) => by_table(why.number(), 0, 0),
     }
 }
 
@@ -241,51 +209,38 @@ fn by_table(number: u8, set: u64, tried: u64) {
     output::value(tried);
 }
 
-fn label(s: &[u8]) -> bool {
+fn label(s: &[u8]) -> Option<()> {
     let mut d = io::large_buffer();
-    let m = input::bytes(&mut d);
-    if !m.whole {
-        return false;
-    }
-    let Long::Is(l) = input::number() else {
-        return false;
-    };
-    output::number(hub::label_number(s, &d[..m.count], l));
-    output::bytes(hub::label_bytes(s, &d[..m.count], l));
-    true
+    let m = input::bytes(&mut d)?;
+    let l = input::number()?;
+    output::number(number_given(hub::label_number(s, &d[..m], l)));
+    output::bytes(hub::label_bytes(s, &d[..m], l));
+    Some(())
 }
 
-// A line or a pattern's bytes, and room: the line read, or the pattern written as a line.
-fn with_bytes(l: u8, s: &[u8]) -> bool {
+// A line or a pattern's bytes, and room, which the call takes beside the sheet.
+fn with_bytes<F: FnOnce(&[u8], &[u8], &mut [u8])>(s: &[u8], call: F) -> Option<()>
+    requires { F.IsAlwaysCallable call }
+{
     let mut text = io::large_buffer();
-    let m = input::bytes(&mut text);
-    if !m.whole {
-        return false;
-    }
+    let m = input::bytes(&mut text)?;
     let mut out = [LENT; 65535];
-    let room = input::room(&out);
-    if !room.whole {
-        return false;
-    }
-    if l == b'N' {
-        read_line_to(s, &text[..m.count], &mut out[..room.count]);
-    } else {
-        write_pattern_to(s, &text[..m.count], &mut out[..room.count]);
-    }
-    true
+    let room = input::room(&out)?;
+    call(s, &text[..m], &mut out[..room]);
+    Some(())
 }
 
 fn read_line_to(s: &[u8], line: &[u8], out: &mut [u8]) {
     match hub::read_line(s, line, out) {
-        Lined::Refused { number, place } => {
-            output::number(number);
-            output::value(place as u64);
-            output::value(0);
-        }
-        Lined::Wrote(length) => {
+        Ok(length) => {
             output::number(0);
             output::value(0);
             output::value(length as u64);
+        }
+        Err(refusal) => {
+            output::number(refusal.why.number());
+            output::value(refusal.place as u64);
+            output::value(0);
         }
     }
     output::bytes(out);
@@ -296,17 +251,12 @@ fn write_pattern_to(s: &[u8], p: &[u8], out: &mut [u8]) {
     output::bytes(out);
 }
 
-fn write_subscription(s: &[u8]) -> bool {
-    let Long::Is(i) = input::number() else {
-        return false;
-    };
+fn write_subscription(s: &[u8]) -> Option<()> {
+    let i = input::number()?;
     let mut out = [LENT; 65535];
-    let room = input::room(&out);
-    if !room.whole {
-        return false;
-    }
-    write_subscription_to(s, i, &mut out[..room.count]);
-    true
+    let room = input::room(&out)?;
+    write_subscription_to(s, i, &mut out[..room]);
+    Some(())
 }
 
 fn write_subscription_to(s: &[u8], i: u64, out: &mut [u8]) {
@@ -315,15 +265,15 @@ fn write_subscription_to(s: &[u8], i: u64, out: &mut [u8]) {
 }
 
 // The number, and how many bytes were written.
-fn written(w: Output) {
+fn written(w: Result<usize, Refusal>) {
     match w {
-        Output::Refused(n) => {
-            output::number(n);
-            output::value(0);
-        }
-        Output::Wrote(length) => {
+        Ok(length) => {
             output::number(0);
             output::value(length as u64);
+        }
+        Err(why) => {
+            output::number(why.number());
+            output::value(0);
         }
     }
 }

@@ -6,8 +6,6 @@ mod calls; // calls.rt: the call of each letter, and its line
 mod input; // input.rt: the parts of a question
 mod output; // output.rt: the values of a line
 
-use input::First;
-
 // The descriptor of standard input, which the parts of a question come from.
 const STDIN_FILENO: i32 = 0;
 
@@ -18,18 +16,12 @@ const STDOUT_FILENO: i32 = 1;
 const MOST_QUESTIONS: u64 = 281474976710656;
 
 fn main() {
-    let mut left = MOST_QUESTIONS;
-    while left > 0 {
-        left -= 1;
-        match input::letter() {
-            First::End => {
-                return;
-            }
-            First::Letter(l) => {
-                if !calls::answer(l) {
-                    return;
-                }
-            }
+    for _ in 0..MOST_QUESTIONS {
+        let Some(l) = input::letter() else {
+            return;
+        };
+        if !calls::answer(l) {
+            return;
         }
     }
 }

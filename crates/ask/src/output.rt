@@ -7,7 +7,7 @@ pub fn text(t: &[u8]) {
 
 // The number that is given back, which comes first.
 pub fn number(n: u8) {
-    io::print_decimal(STDOUT_FILENO, n as u64);
+    io::print_decimal(STDOUT_FILENO, u64::from(n));
 }
 
 // A value after it: one space, and the value in decimal.
@@ -32,27 +32,24 @@ pub fn set(s: u64) {
 
 // Bytes: two hexadecimal digits each, and `-` where there are none. No part is longer than 65,535 bytes.
 pub fn bytes(b: &[u8]) {
-    if b.len() == 0 {
+    if b.is_empty() {
         text(b" -");
         return;
     }
     text(b" ");
+    let part = &b[..b.len().min(65535)];
     let mut line = [0u8; 131070];
-    let mut i = 0;
-    while i < b.len() && i < 65535 {
-        line[2 * i] = digit(b[i] / 16);
-        line[2 * i + 1] = digit(b[i] % 16);
-        i += 1;
+    for (i, x) in part.iter().enumerate() {
+        line[2 * i] = digit(*x / 16);
+        line[2 * i + 1] = digit(*x % 16);
     }
-    text(&line[..2 * i]);
+    text(&line[..2 * part.len()]);
 }
 
 fn digit(d: u8) -> u8 {
-    if d < 10 {
-        return 48 + d;
+    match d {
+        0..=9 => b'0' + d,
+        10..=15 => b'a' + (d - 10),
+        _ => b'?',
     }
-    if d < 16 {
-        return 87 + d;
-    }
-    63
 }

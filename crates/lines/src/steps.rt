@@ -8,9 +8,7 @@ ghost use Rattle.lines.specs.Ends.{may_end_at};
 
 use meaning::{MOST_STEPS, Step};
 use shapes::{Pattern, no_steps};
-use turns::course::{
-    Course, closed_course, first_course, moved_course, named_course, opened_course, step_found,
-};
+use turns::course::Course;
 use turns::names::name_at;
 use turns::{Mode, Turn, turn_at};
 
@@ -79,7 +77,7 @@ pub fn steps_of(s: &[u8], line: &[u8]) -> Found
     let none = no_steps();
     let mut steps = none.steps;
     let mut opens: [u8; MOST_OPEN] = [0; MOST_OPEN];
-    let mut c = first_course();
+    let mut c = Course::first();
     while c.at < line.len() {
         let at = c.at;
         let mode = c.mode;
@@ -88,22 +86,22 @@ pub fn steps_of(s: &[u8], line: &[u8]) -> Found
                 return off(at);
             }
             Turn::Moves(m) => {
-                c = moved_course(c, m);
+                c = c.moved(m);
             }
             Turn::Opens => {
-                c = opened_course(c, &mut opens);
+                c = c.opened(&mut opens);
             }
             Turn::Closes => {
                 if c.depth == 0 {
                     return off(at);
                 }
-                c = closed_course(c, &opens);
+                c = c.closed(&opens);
             }
             Turn::Names(axis) => {
                 let n = name_at(s, line, at);
-                let x = step_found(c, axis, n);
+                let x = c.step_found(axis, n);
                 let k = c.count;
-                c = named_course(c, n);
+                c = c.named(n);
                 if k < MOST_STEPS {
                     steps[k] = x;
                 }

@@ -9,61 +9,48 @@ ghost use Rattle.meaning.specs.Routing.{members_of};
 ghost use Rattle.meaning.specs.Printing.{comma_text, entry_text};
 ghost use Rattle.shapes.specs.Shapes.{entry_of, WellFormed, WellFormedTable};
 ghost use Rattle.texts.specs.PutText.{written, put};
+ghost use Rattle.texts.specs.Puts.{Puts};
 ghost use Rattle.labels.specs.LabelPlaces.{labels_in};
 ghost use Rattle.printing.specs.TableTexts.{totals_of, built_table, text_of};
 
 use members::is_member;
 use shapes::{Entry, Table, steps_together};
-use texts::pattern::put_pattern;
-use texts::{put_bytes, put_counted, put_decimal, put_if};
+use texts::Text;
 
-// The members of an entry, of n subscriptions, ascending, with a comma between them; the next place.
-fn put_members(out: &mut [u8], at: usize, members: u64, n: usize) -> usize
+// The members of an entry, of n subscriptions, ascending, with a comma between them.
+fn put_members(text: &mut Text, members: u64, n: usize)
     requires { n ≤ most_patterns }
-    ensures { written out.new result ≡ put (written out.old at) (comma_text (members_of n members)) }
+    ensures { Puts text.old text.new (comma_text (members_of n members)) }
 {
-    let mut next = at;
     let mut started = false;
-    let mut i = 0;
-    while i < n {
-        let k = i;
-        i += 1;
+    for k in 0..n {
         if is_member(members, k) {
-            next = put_if(out, next, started, 44);
-            next = put_decimal(out, next, k);
+            text.put_if(started, b',');
+            text.put_decimal(k);
             started = true;
         }
     }
-    next
 }
 
-// The totals; the next place.
-fn put_totals(
-    out: &mut [u8],
-    at: usize,
-    subscriptions: usize,
-    entries: usize,
-    steps: usize,
-    rounds: usize,
-) -> usize
-    ensures { written out.new result ≡ put (written out.old at) (totals_of subscriptions entries steps rounds) }
+// The totals.
+fn put_totals(text: &mut Text, subscriptions: usize, entries: usize, steps: usize, rounds: usize)
+    ensures { Puts text.old text.new (totals_of subscriptions entries steps rounds) }
 {
-    let mut next = put_counted(out, at, subscriptions, b" subscriptions, ");
-    next = put_counted(out, next, entries, b" entries, ");
-    next = put_counted(out, next, steps, b" steps, ");
-    put_counted(out, next, rounds, b" rounds\n")
+    text.put_counted(subscriptions, b" subscriptions, ");
+    text.put_counted(entries, b" entries, ");
+    text.put_counted(steps, b" steps, ");
+    text.put_counted(rounds, b" rounds\n");
 }
 
-// A line for an entry, beside a sheet s of so many subscriptions; the next place.
-fn put_entry(out: &mut [u8], at: usize, s: &[u8], e: Entry, subscriptions: usize) -> usize
-    requires { WellFormed e.pattern × (subscriptions ≤ most_patterns) }
-    ensures { written out.new result
-        ≡ put (written out.old at) (entry_text (labels_in s.now) subscriptions (entry_of e)) }
+// A line for an entry, beside a sheet s of so many subscriptions.
+fn put_entry(text: &mut Text, s: &[u8], e: &Entry, subscriptions: usize)
+    requires { WellFormed e.now.pattern × (subscriptions ≤ most_patterns) }
+    ensures { Puts text.old text.new (entry_text (labels_in s.now) subscriptions (entry_of e.now)) }
 {
-    let mut next = put_members(out, at, e.members, subscriptions);
-    next = put_bytes(out, next, b": ");
-    next = put_pattern(out, next, s, e.pattern);
-    put_bytes(out, next, b"\n")
+    put_members(text, e.members, subscriptions);
+    text.put_bytes(b": ");
+    text.put_pattern(s, &e.pattern);
+    text.put_bytes(b"\n");
 }
 
 // A table: the totals, and a line for each entry; the next place.
@@ -72,13 +59,10 @@ pub fn put_table(out: &mut [u8], s: &[u8], t: Table, subscriptions: usize, round
     ensures { written out.new result
         ≡ put (written out.old 0) (text_of (labels_in s.now) subscriptions (built_table t rounds)) }
 {
-    let steps = steps_together(t);
-    let mut next = put_totals(out, 0, subscriptions, t.count, steps, rounds);
-    let mut i = 0;
-    while i < t.count {
-        let e = t.entries[i];
-        i += 1;
-        next = put_entry(out, next, s, e, subscriptions);
+    let mut text = Text::new(out);
+    put_totals(&mut text, subscriptions, t.count, steps_together(t), rounds);
+    for e in t.entries() {
+        put_entry(&mut text, s, e, subscriptions);
     }
-    next
+    text.at
 }

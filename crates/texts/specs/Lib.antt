@@ -3,3 +3,4 @@ pub mod Decimals
 pub mod Wanted
 pub mod StepTexts
 pub mod BranchTexts
+pub mod Puts

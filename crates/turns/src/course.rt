@@ -20,31 +20,92 @@ pub struct Course {
     pub known: bool,
 }
 
-pub fn first_course() -> Course
-    ensures { result ≡ first_course }
-{
-    Course {
-        at: 0,
-        mode: Mode::Start,
-        depth: 0,
-        here: 0,
-        count: 0,
-        known: true,
+impl Course {
+    // Before the first byte.
+    #[tactic(auto, unfolding(crate::specs::Courses::first_course))]
+    pub fn first() -> Course
+        ensures { result ≡ first_course }
+    {
+        Course {
+            at: 0,
+            mode: Mode::Start,
+            depth: 0,
+            here: 0,
+            count: 0,
+            known: true,
+        }
     }
-}
 
-// A byte leads on.
-pub fn moved_course(c: Course, mode: Mode) -> Course
-    requires { c.at < 2 ^ 64 - 1 }
-    ensures { result ≡ moved_course c mode }
-{
-    Course {
-        at: c.at + 1,
-        mode,
-        depth: c.depth,
-        here: c.here,
-        count: c.count,
-        known: c.known,
+    // A byte leads on.
+    #[tactic(auto, unfolding(crate::specs::Courses::moved_course))]
+    pub fn moved(self, mode: Mode) -> Course
+        requires { self.at < 2 ^ 64 - 1 }
+        ensures { result ≡ moved_course self mode }
+    {
+        Course {
+            at: self.at + 1,
+            mode,
+            ..self
+        }
+    }
+
+    // A bracket opens: the step that its branch hangs on is kept.
+    #[tactic(auto, unfolding(crate::specs::Courses::opened_course))]
+    pub fn opened(self, opens: &mut [u8]) -> Course
+        requires { (self.at < 2 ^ 64 - 1) × (self.depth ≤ self.at) }
+        ensures { (result ≡ opened_course self) × (opens.new ≡ set opens.old self.depth self.here) }
+    {
+        keep(opens, self.depth, self.here);
+        Course {
+            at: self.at + 1,
+            mode: Mode::Opened,
+            depth: self.depth + 1,
+            ..self
+        }
+    }
+
+    // The innermost bracket closes.
+    #[tactic(auto, unfolding(crate::specs::Courses::closed_course))]
+    pub fn closed(self, opens: &[u8]) -> Course
+        requires { (self.at < 2 ^ 64 - 1) × (0 < self.depth) }
+        ensures { result ≡ closed_course self opens.now }
+    {
+        let depth = self.depth - 1;
+        Course {
+            at: self.at + 1,
+            mode: Mode::Ended,
+            depth,
+            here: byte_at(opens, depth) as u8,
+            ..self
+        }
+    }
+
+    // The step that is found.
+    pub fn step_found(self, axis: u8, n: Name) -> Step
+        ensures { result ≡ record { parent = self.here; axis = axis; label = n.label } }
+    {
+        Step {
+            parent: self.here,
+            axis,
+            label: n.label,
+        }
+    }
+
+    // A step is found.
+    #[tactic(auto, unfolding(crate::specs::Courses::named_course))]
+    pub fn named(self, n: Name) -> Course
+        requires { self.count ≤ suc most_steps }
+        ensures { result ≡ named_course self n }
+    {
+        let count = one_more(self.count);
+        Course {
+            at: n.end,
+            mode: Mode::Ended,
+            here: count as u8,
+            count,
+            known: self.known && n.known,
+            ..self
+        }
     }
 }
 
@@ -57,39 +118,8 @@ fn keep(bytes: &mut [u8], at: usize, b: u8)
     }
 }
 
-// A bracket opens: the step that its branch hangs on is kept.
-pub fn opened_course(c: Course, opens: &mut [u8]) -> Course
-    requires { (c.at < 2 ^ 64 - 1) × (c.depth ≤ c.at) }
-    ensures { (result ≡ opened_course c) × (opens.new ≡ set opens.old c.depth c.here) }
-{
-    keep(opens, c.depth, c.here);
-    Course {
-        at: c.at + 1,
-        mode: Mode::Opened,
-        depth: c.depth + 1,
-        here: c.here,
-        count: c.count,
-        known: c.known,
-    }
-}
-
-// The innermost bracket closes.
-pub fn closed_course(c: Course, opens: &[u8]) -> Course
-    requires { (c.at < 2 ^ 64 - 1) × (0 < c.depth) }
-    ensures { result ≡ closed_course c opens.now }
-{
-    let depth = c.depth - 1;
-    Course {
-        at: c.at + 1,
-        mode: Mode::Ended,
-        depth,
-        here: byte_at(opens, depth) as u8,
-        count: c.count,
-        known: c.known,
-    }
-}
-
 // One step more; those after the seventeenth are not counted.
+#[tactic(auto, unfolding(base::specs::Choice::pick, crate::specs::Courses::counted))]
 fn one_more(count: usize) -> usize
     requires { count ≤ suc most_steps }
     ensures { (result ≡ counted count) × (result ≤ suc most_steps) }
@@ -98,31 +128,4 @@ fn one_more(count: usize) -> usize
         return count + 1;
     }
     count
-}
-
-// The step that is found.
-pub fn step_found(c: Course, axis: u8, n: Name) -> Step
-    ensures { result ≡ record { parent = c.here; axis = axis; label = n.label } }
-{
-    Step {
-        parent: c.here,
-        axis,
-        label: n.label,
-    }
-}
-
-// A step is found.
-pub fn named_course(c: Course, n: Name) -> Course
-    requires { c.count ≤ suc most_steps }
-    ensures { result ≡ named_course c n }
-{
-    let count = one_more(c.count);
-    Course {
-        at: n.end,
-        mode: Mode::Ended,
-        depth: c.depth,
-        here: count as u8,
-        count,
-        known: c.known & n.known,
-    }
 }

@@ -33,67 +33,65 @@ pub enum Turn {
 }
 
 // A name begins: * or a label.
+#[tactic(auto, unfolding(base::specs::Choice::pick, crate::specs::Turns::name_turn))]
 fn name_turn(b: u8, axis: u8) -> Turn
     ensures { result ≡ name_turn b axis }
 {
-    if b == b'*' {
-        return Turn::Names(axis);
+    match b {
+        b'*' => Turn::Names(axis),
+        _ if barred(b) => Turn::Stuck,
+        _ => Turn::Names(axis),
     }
-    if barred(b) {
-        return Turn::Stuck;
-    }
-    Turn::Names(axis)
 }
 
 // A slash leads on, and nothing else does.
+#[tactic(auto, unfolding(base::specs::Choice::pick, crate::specs::Turns::slash_turn))]
 fn slash_turn(b: u8, mode: Mode) -> Turn
     ensures { result ≡ slash_turn b mode }
 {
-    if b == b'/' {
-        return Turn::Moves(mode);
+    match b {
+        b'/' => Turn::Moves(mode),
+        _ => Turn::Stuck,
     }
-    Turn::Stuck
 }
 
 // A branch begins, in brackets or without; or it is this other byte, which does its own turn.
+#[tactic(auto, unfolding(base::specs::Choice::pick, crate::specs::Turns::branch_turn))]
 fn branch_turn(b: u8, other: u8, turn: Turn) -> Turn
     ensures { result ≡ branch_turn b other turn }
 {
-    if b == b'/' {
-        return Turn::Moves(Mode::Slash);
+    match b {
+        b'/' => Turn::Moves(Mode::Slash),
+        b'[' => Turn::Opens,
+        _ if b == other => turn,
+        _ => Turn::Stuck,
     }
-    if b == b'[' {
-        return Turn::Opens;
-    }
-    if b == other {
-        return turn;
-    }
-    Turn::Stuck
 }
 
 // After a slash: a second one, or a name.
+#[tactic(auto, unfolding(base::specs::Choice::pick, crate::specs::Turns::second_turn))]
 fn second_turn(b: u8) -> Turn
     ensures { result ≡ second_turn b }
 {
-    if b == b'/' {
-        return Turn::Moves(Mode::Slashes);
+    match b {
+        b'/' => Turn::Moves(Mode::Slashes),
+        _ => name_turn(b, 0),
     }
-    name_turn(b, 0)
 }
 
 // After an opening bracket: an axis, a short form.
+#[tactic(auto, unfolding(base::specs::Choice::pick, crate::specs::Turns::opened_turn))]
 fn opened_turn(b: u8) -> Turn
     ensures { result ≡ opened_turn b }
 {
-    if b == b'/' {
-        return Turn::Moves(Mode::Slash);
+    match b {
+        b'/' => Turn::Moves(Mode::Slash),
+        b'.' => Turn::Moves(Mode::OpenedDot),
+        _ => name_turn(b, 0),
     }
-    if b == b'.' {
-        return Turn::Moves(Mode::OpenedDot);
-    }
-    name_turn(b, 0)
 }
 
+#[tactic(auto, unfolding(crate::specs::Turns::turn_at))]
 pub fn turn_at(mode: Mode, b: u8) -> Turn
     ensures { result ≡ turn_at mode b }
 {

@@ -1,25 +1,23 @@
-use mathlib.Core.Path.{refl}
-use native.Mathlib.Omega.{arith}
-use Rattle.texts.specs.PutText.{left-first, left-goes_on, left-stays, left_none, left-same, put_is}
+use Rattle.std.proofs.Common.{refl}
+use Rattle.texts.specs.Puts.{puts_is, still-first, still-goes_on, still-stays, still_none}
 use Rattle.printing.proofs.MemberTexts.{members-text, member_here, member_not, members-end}
 use Rattle.printing.proofs.put_members.Goals as goal
+use Rattle.printing.proofs.put_members.Goals.{then-is_member, else-is_member}
 
-pub loop-i-init : goal.loop-i-init
-loop-i-init c = left-first
+pub loop-k-init : goal.loop-k-init
+loop-k-init c = still-first _ _
 
-pub loop-i-preserved-then-is_member : goal.loop-i-preserved-then-is_member
-loop-i-preserved-then-is_member c =
-    let n = c.args.n in
-    let here = member_here _ n c.loop-i.i (omega arith) c.loop-i.started _ c.is_member.ensures c.if-is_member.true in
-    left-goes_on (left-goes_on c.loop-i.invariant _ here c.put_if-next.ensures) _ refl c.put_decimal-next.ensures
-
-pub loop-i-preserved : goal.loop-i-preserved
-loop-i-preserved c =
-    let n = c.args.n in
-    left-stays c.loop-i.invariant (member_not _ n c.loop-i.i (omega arith) c.loop-i.started _ c.is_member.ensures c.if-is_member.false)
-
-pub shape_of-out : goal.shape_of-out
-shape_of-out c = left-same c.loop-i.invariant
+pub loop-k-preserved : goal.loop-k-preserved
+loop-k-preserved c =
+    let l = c.loop-k in
+    elim c.if-is_member.branch [
+      | then-is_member w ↦
+          let here = member_here _ c.args.n l.k c.loop-k-test.true l.started _ c.is_member.ensures w.if-is_member.true in
+          rw (w.text-is, w.started-is) (still-goes_on (still-goes_on l.invariant _ here w.put_if.ensures) _ refl w.put_decimal.ensures)
+      | else-is_member w ↦
+          let here = member_not _ c.args.n l.k c.loop-k-test.true l.started _ c.is_member.ensures w.if-is_member.false in
+          rw (w.text-is, w.started-is) (still-stays l.invariant here)
+    ]
 
 pub returns : goal.returns
-returns c = put_is _ (members-text _ _) (left_none c.loop-i.invariant (members-end _ _ _ _ (omega arith)))
+returns c = puts_is (members-text _ _) (still_none c.loop-k.invariant (members-end _ _ _ _ c.loop-k-test.false))

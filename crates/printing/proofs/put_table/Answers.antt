@@ -1,26 +1,34 @@
-use mathlib.Core.Path.{◌∙◌}
-use native.Mathlib.Omega.{arith}
-use Rattle.shapes.specs.TableValues.{entry-sound}
-use Rattle.texts.specs.PutText.{left-goes_on, left_none, left-same, put_then, put_is, same-room}
+use Rattle.std.proofs.Common.{rules}
+use Rattle.shapes.specs.TableValues.{no_entry_value, length-entries, entry_held, entry-sound}
+use Rattle.texts.specs.Puts.{puts_is, puts_then, puts_all, still-first, still-goes_on, still_none}
 use Rattle.printing.specs.TableTexts.{entry_here, entries-end, table_text_lem}
 use Rattle.printing.proofs.put_table.Goals as goal
 
-pub put_entry-next-requires : goal.put_entry-next-requires
-put_entry-next-requires c =
-    let pre = c.requires in
-    (entry-sound _ pre.0 c.loop-i.i _ c.loop-i-test.true, pre.1)
+pub loop-e-init : goal.loop-e-init
+loop-e-init c = still-first _ _
 
-pub loop-i-preserved : goal.loop-i-preserved
-loop-i-preserved c =
+pub put_entry-requires : goal.put_entry-requires
+put_entry-requires c =
+    let t = c.args.t in
     let sound = c.requires.0 in
-    left-goes_on c.loop-i.invariant _ (entry_here _ sound _ _ c.loop-i.i _ (omega arith)) c.put_entry-next.ensures
+    let i = c.loop-e.e-index in
+    let there = rw (c.entries-e-items.ensures, length-entries t sound) at c.loop-e-test.true in
+    rw (c.entries-e-items.ensures, entry_held t sound i no_entry_value there) (entry-sound t sound i no_entry_value there, c.requires.1)
 
-pub shape_of-out : goal.shape_of-out
-shape_of-out c =
-    left-same c.loop-i.invariant ∙ same-room _ _ _ _ _ c.put_totals-next.ensures
+pub loop-e-preserved : goal.loop-e-preserved
+loop-e-preserved c =
+    let t = c.args.t in
+    let sound = c.requires.0 in
+    let i = c.loop-e.e-index in
+    let there = rw (c.entries-e-items.ensures, length-entries t sound) at c.loop-e-test.true in
+    let put = rw (c.entries-e-items.ensures, entry_held t sound i no_entry_value there) at c.put_entry.ensures in
+    still-goes_on c.loop-e.invariant _ (entry_here t sound _ _ i no_entry_value there) put
 
 pub returns : goal.returns
 returns c =
+    let t = c.args.t in
     let sound = c.requires.0 in
-    put_is _ (table_text_lem _ sound _ _ _ _ c.steps_together-steps.ensures.0)
-    (put_then _ _ _ c.put_totals-next.ensures (left_none c.loop-i.invariant (entries-end _ sound _ _ _ c.loop-i-test.false)))
+    let none_left = rw (c.entries-e-items.ensures, length-entries t sound) at c.loop-e-test.false in
+    let lines = still_none c.loop-e.invariant (entries-end t sound _ _ _ none_left) in
+    let all = puts_is (table_text_lem t sound _ _ _ _ c.steps_together.ensures.0) (puts_then c.put_totals.ensures lines) in
+    puts_all _ _ _ c.new-text.ensures.begins all (search rules)

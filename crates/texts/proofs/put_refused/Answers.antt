@@ -1,5 +1,6 @@
 -- `texts::put_refused` meets its contract. The word, and then the number and the line's end.
-use Rattle.texts.specs.PutText.{put_then}
+use Rattle.std.proofs.Common.{rules}
+use Rattle.texts.specs.Puts.{puts_then, puts_all}
 use Rattle.meaning.specs.PatternText.{ascii}
 use Rattle.meaning.specs.Printing.{refused_text}
 use Rattle.texts.proofs.put_refused.Goals as goal
@@ -7,4 +8,4 @@ use Rattle.texts.proofs.put_refused.Goals as goal
 pub returns : goal.returns
 unfolding ascii refused_text
 returns c =
-    put_then _ _ _ c.put_bytes-next.ensures c.put_counted.ensures
+    puts_all _ _ _ c.new-text.ensures.begins (puts_then c.put_bytes.ensures c.put_counted.ensures) (search rules)

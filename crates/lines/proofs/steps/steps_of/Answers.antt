@@ -20,7 +20,7 @@ pub loop-c-init : goal.loop-c-init
 unfolding no_steps
 loop-c-init c =
     let none = ap (λ (p : Pattern). length p.steps) c.no_steps-none.ensures in
-    rw c.first_course-c.ensures (reached-first _ _ _ _ refl none)
+    rw c.first-c.ensures (reached-first _ _ _ _ refl none)
 
 -- no line goes on so
 pub returns-in-Stuck : goal.returns-in-Stuck
@@ -34,7 +34,7 @@ returns-in-Stuck c =
 -- the byte leads on
 pub loop-c-smaller-in-Moves : goal.loop-c-smaller-in-Moves
 unfolding moved_course
-loop-c-smaller-in-Moves c = omega (arith, ap (λ (x : Course). x.at) c.moved_course-c.ensures)
+loop-c-smaller-in-Moves c = omega (arith, ap (λ (x : Course). x.at) c.moved-c.ensures)
 
 pub loop-c-preserved-in-Moves : goal.loop-c-preserved-in-Moves
 loop-c-preserved-in-Moves c =
@@ -42,15 +42,15 @@ loop-c-preserved-in-Moves c =
     let line = c.args.line.now in
     let e : turn_at l.c.mode (get_or line l.c.at 0) ≡ turn.Moves c.in-Moves.m = cc in
     let inside = c.loop-c-test.true in
-    rw c.moved_course-c.ensures (reached_moves _ _ l.invariant inside _ e)
+    rw c.moved-c.ensures (reached_moves _ _ l.invariant inside _ e)
 
 -- a bracket opens
-pub opened_course-c-requires : goal.opened_course-c-requires
-opened_course-c-requires c = (omega arith, c.loop-c.invariant.low)
+pub opened-c-requires : goal.opened-c-requires
+opened-c-requires c = (omega arith, c.loop-c.invariant.low)
 
 pub loop-c-smaller-in-Opens : goal.loop-c-smaller-in-Opens
 unfolding opened_course
-loop-c-smaller-in-Opens c = omega (arith, ap (λ (x : Course). x.at) c.opened_course-c.ensures.0)
+loop-c-smaller-in-Opens c = omega (arith, ap (λ (x : Course). x.at) c.opened-c.ensures.0)
 
 pub loop-c-preserved-in-Opens : goal.loop-c-preserved-in-Opens
 loop-c-preserved-in-Opens c =
@@ -58,7 +58,7 @@ loop-c-preserved-in-Opens c =
     let line = c.args.line.now in
     let e : turn_at l.c.mode (get_or line l.c.at 0) ≡ turn.Opens = cc in
     let inside = c.loop-c-test.true in
-    let r = c.opened_course-c.ensures in
+    let r = c.opened-c.ensures in
     rw (r.0, r.1) (reached-opens _ _ l.invariant inside e)
 
 -- a bracket closes that isn't open
@@ -71,12 +71,12 @@ returns-then-c-eq0 c =
     reached_off _ _ _ _ (reached_unopened _ _ l.invariant inside e c.if-c-eq0.true) c.off-then-c-eq0.ensures
 
 -- one that is
-pub closed_course-c-requires : goal.closed_course-c-requires
-closed_course-c-requires c = (omega arith, omega (arith, c.if-c-eq0.false))
+pub closed-c-requires : goal.closed-c-requires
+closed-c-requires c = (omega arith, omega (arith, c.if-c-eq0.false))
 
 pub loop-c-smaller-in-Closes : goal.loop-c-smaller-in-Closes
 unfolding closed_course
-loop-c-smaller-in-Closes c = omega (arith, ap (λ (x : Course). x.at) c.closed_course-c.ensures)
+loop-c-smaller-in-Closes c = omega (arith, ap (λ (x : Course). x.at) c.closed-c.ensures)
 
 pub loop-c-preserved-in-Closes : goal.loop-c-preserved-in-Closes
 loop-c-preserved-in-Closes c =
@@ -84,17 +84,17 @@ loop-c-preserved-in-Closes c =
     let line = c.args.line.now in
     let e : turn_at l.c.mode (get_or line l.c.at 0) ≡ turn.Closes = cc in
     let inside = c.loop-c-test.true in
-    rw c.closed_course-c.ensures (reached-closes _ _ l.invariant inside e (omega (arith, c.if-c-eq0.false)))
+    rw c.closed-c.ensures (reached-closes _ _ l.invariant inside e (omega (arith, c.if-c-eq0.false)))
 
 -- a name
-pub named_course-c-requires : goal.named_course-c-requires
-named_course-c-requires c = rw c.loop-c.invariant.counts (count_most _)
+pub named-c-requires : goal.named-c-requires
+named-c-requires c = rw c.loop-c.invariant.counts (count_most _)
 
 pub loop-c-smaller-then-k-lt-MOST_STEPS : goal.loop-c-smaller-then-k-lt-MOST_STEPS
 unfolding named_course
 loop-c-smaller-then-k-lt-MOST_STEPS c =
     let args = c.args in
-    let at_name = ap (λ (x : Course). x.at) c.named_course-c.ensures in
+    let at_name = ap (λ (x : Course). x.at) c.named-c.ensures in
     let name = ap (λ (x : Name). x.end) c.name_at-n.ensures.0 in
     omega (arith, at_name, name, name-further (labels_in args.s.now) args.line.now c.loop-c.c.at)
 
@@ -106,14 +106,14 @@ loop-c-preserved-then-k-lt-MOST_STEPS c =
     let inside = c.loop-c-test.true in
     let name = c.name_at-n.ensures in
     let r = reached_names _ _ l.invariant inside _ _ e name.0 name.1 in
-    rw (c.named_course-c.ensures, c.step_found-x.ensures) r
+    rw (c.named-c.ensures, c.step_found-x.ensures) r
 
 -- there is no place for a seventeenth
 pub loop-c-smaller : goal.loop-c-smaller
 unfolding named_course
 loop-c-smaller c =
     let args = c.args in
-    let at_name = ap (λ (x : Course). x.at) c.named_course-c.ensures in
+    let at_name = ap (λ (x : Course). x.at) c.named-c.ensures in
     let name = ap (λ (x : Name). x.end) c.name_at-n.ensures.0 in
     omega (arith, at_name, name, name-further (labels_in args.s.now) args.line.now c.loop-c.c.at)
 
@@ -126,7 +126,7 @@ loop-c-preserved c =
     let name = c.name_at-n.ensures in
     let r = reached_names _ _ l.invariant inside _ _ e name.0 name.1 in
     let room = l.invariant.room in
-    rw c.named_course-c.ensures (subst (Reached _ _ _ _) (set_out _ _ _ (omega (arith, room, c.if-k-lt-MOST_STEPS.false))) r)
+    rw c.named-c.ensures (subst (Reached _ _ _ _) (set_out _ _ _ (omega (arith, room, c.if-k-lt-MOST_STEPS.false))) r)
 
 pub returns : goal.returns
 returns c = rw c.at_end.ensures (reached-end _ _ c.loop-c.invariant (omega (arith, c.loop-c-test.false)))

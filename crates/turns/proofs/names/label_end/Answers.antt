@@ -1,21 +1,12 @@
-use mathlib.Core.Path.{refl, sym, ◌∙◌}
-use native.Mathlib.Omega.{arith}
-use borrow.Author.Rules.{rules}
-use Rattle.turns.specs.Names.{label-stops, label-goes_on, label-ends}
+-- `turns::names::label_end` meets its contract. The bytes that are counted are those of the line from there on.
+use Rattle.std.proofs.Common.{◌≡◌, ◌-◌, length, take, drop, arith, take_all, length-drop}
+use Rattle.turns.specs.Names.{label_long_lem}
 use Rattle.turns.proofs.names.label_end.Goals as goal
 
-pub loop-i-init : goal.loop-i-init
-loop-i-init c = (refl, search rules)
-
-pub returns-then-barred : goal.returns-then-barred
-returns-then-barred c =
-    let l = c.loop-i in
-    (label-stops _ l.i _ l.invariant.0 (omega arith) (sym c.barred.ensures ∙ c.if-barred.true), l.invariant.1)
-
-pub loop-i-preserved : goal.loop-i-preserved
-loop-i-preserved c =
-    let l = c.loop-i in
-    (label-goes_on _ l.i _ l.invariant.0 (omega arith) (sym c.barred.ensures ∙ c.if-barred.false), omega arith)
-
 pub returns : goal.returns
-returns c = let l = c.loop-i in (label-ends _ l.i _ l.invariant.0 (omega arith), l.invariant.1)
+returns c =
+    let line = c.args.line.now in
+    let rest = drop c.args.from line in
+    let whole : take (length line - c.args.from) rest ≡ rest = take_all (length line - c.args.from) rest (omega (arith, length-drop c.args.from line)) in
+    let long = rw (whole, label_long_lem rest) at c.label_long.ensures.long in
+    (omega (arith, long), omega arith)
