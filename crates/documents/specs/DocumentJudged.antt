@@ -54,6 +54,10 @@ pub record NodesStand (d : List ℕ) (at n : ℕ) : Type 0 where
   pub inside : at + 3 * n ≤ length d
   pub rising : Rising (parents_of (nodes_at d at n))
 
+-- those of a document, from behind their count on
+abbrev pub DocumentStands : List ℕ → Type 0
+DocumentStands d = NodesStand d (node_count_at d + 2) (pair_at d (node_count_at d))
+
 -- three bytes a node
 threes : (x n : ℕ) → place_after after_node x n ≡ x + 3 * n
 unfolding place_after after_node

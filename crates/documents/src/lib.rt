@@ -7,14 +7,16 @@ ghost use Rattle.base.specs.Loops.{run};
 ghost use Rattle.meaning.specs.Sections.{node_parent};
 ghost use Rattle.meaning.specs.Numbers.{number_given};
 ghost use Rattle.meaning.specs.Calls.{document_number, label_number, label_part};
+ghost use Rattle.shapes.specs.Nodes.{nodes_in};
 ghost use Rattle.places.specs.Bytes.{pair_at};
-ghost use Rattle.documents.specs.DocumentSection.{node_label, node_place, nodes_place, document_place, node_count_at};
-ghost use Rattle.documents.specs.DocumentJudged.{sheet_document_place};
+ghost use Rattle.documents.specs.DocumentSection.{node_label, node_place, nodes_place, document_place, document_at, node_count_at};
+ghost use Rattle.documents.specs.DocumentJudged.{DocumentStands, sheet_document_place};
 
 use labels::{after_labels, labels, text_at};
 use meaning::{MOST_LABELS, MOST_NODES, Refusal};
 use places::{byte_at, end, pair_at};
 use reading::sheet;
+use shapes::nodes::Nodes;
 
 // Node 1 has parent 0, every other a parent from 1 to its own number less 1.
 fn node_parent(k: usize, p: usize) -> bool
@@ -141,6 +143,18 @@ pub fn node_count(d: &[u8]) -> usize
     ensures { (result ≡ pair_at d.now (node_count_at d.now)) × (result < 65536) }
 {
     pair_at(d, after_labels(d, 1, byte_at(d, 0)))
+}
+
+// The nodes of a document that was judged.
+pub fn nodes_of(d: &[u8]) -> Nodes
+    requires { DocumentStands d.now }
+    ensures { nodes_in result ≡ (document_at d.now).nodes }
+{
+    Nodes {
+        bytes: d,
+        at: node_place(d),
+        count: node_count(d),
+    }
 }
 
 // Is there a label with this number?

@@ -8,43 +8,44 @@ ghost use Rattle.std.specs.Prelude.{◌≡◌};
 ghost use Rattle.meaning.specs.Satisfying.{satisfies};
 ghost use Rattle.meaning.specs.Routing.{plain_route};
 ghost use Rattle.meaning.specs.Calls.{matches_answer, plain_answer, table_answer, wanted_answer};
-ghost use Rattle.shapes.specs.Shapes.{nodes_at, pattern_of, WellFormed};
+ghost use Rattle.shapes.specs.Nodes.{nodes_in};
+ghost use Rattle.shapes.specs.Shapes.{pattern_of, WellFormed};
 ghost use Rattle.reading.specs.SheetPlaces.{sheet_at};
 ghost use Rattle.subscriptions.specs.Taken.{pattern_at};
 ghost use Rattle.reading.specs.SheetJudged.{SheetStands};
-ghost use Rattle.documents.specs.DocumentJudged.{NodesStand};
 ghost use Rattle.routing.specs.Plain.{numbered_answer};
 ghost use Rattle.routing.specs.ThreeJudged.{three_place};
 ghost use Rattle.routing.specs.Sought.{sought_answer};
 
 use crate::by_table::ask_entries;
 use crate::wanting::seek_entries;
-use documents::{document, node_count, node_place, sheet_and_document};
+use documents::{document, nodes_of, sheet_and_document};
 use fairness::fair_table;
 use matching::{Tried, matches};
 use meaning::{Refusal, Tabled};
 use members::mark;
+use shapes::nodes::Nodes;
 use subscriptions::{pattern_at, subscriptions_in};
 use tables::entries_in;
 
 // Does the document whose n nodes stand from a place on satisfy the pattern at x of the sheet?
-fn ask(s: &[u8], x: usize, d: &[u8], at: usize, n: usize) -> bool
-    requires { WellFormed (pattern_at s.now x) × NodesStand d.now at n }
-    ensures { result ≡ satisfies (nodes_at d.now at n) (pattern_of (pattern_at s.now x)) }
+fn ask(s: &[u8], x: usize, nodes: &Nodes) -> bool
+    requires { WellFormed (pattern_at s.now x) }
+    ensures { result ≡ satisfies (nodes_in nodes.now) (pattern_of (pattern_at s.now x)) }
 {
-    matches(d, at, n, pattern_at(s, x))
+    matches(nodes, pattern_at(s, x))
 }
 
 // The delivery set of a document whose n nodes stand from a place on: each subscription is asked.
-fn deliver(s: &[u8], d: &[u8], at: usize, n: usize) -> u64
-    requires { SheetStands s.now × NodesStand d.now at n }
-    ensures { result ≡ plain_route (nodes_at d.now at n) (sheet_at s.now).patterns }
+fn deliver(s: &[u8], nodes: &Nodes) -> u64
+    requires { SheetStands s.now }
+    ensures { result ≡ plain_route (nodes_in nodes.now) (sheet_at s.now).patterns }
 {
     let subscriptions = subscriptions_in(s);
     let mut set: u64 = 0;
     for i in 0..subscriptions.count {
         let x = subscriptions.places[i];
-        set = mark(set, i, ask(s, x, d, at, n));
+        set = mark(set, i, ask(s, x, nodes));
     }
     set
 }
@@ -54,19 +55,19 @@ pub fn plain_route(s: &[u8], d: &[u8]) -> Result<u64, Refusal>
     ensures { result ≡ plain_answer s.now d.now }
 {
     sheet_and_document(s, d)?;
-    Ok(deliver(s, d, node_place(d), node_count(d)))
+    Ok(deliver(s, &nodes_of(d)))
 }
 
 // Does the subscription with this number match the document whose n nodes stand from a place on?
-fn ask_numbered(s: &[u8], i: u64, d: &[u8], at: usize, n: usize) -> Result<bool, Refusal>
-    requires { SheetStands s.now × NodesStand d.now at n }
-    ensures { result ≡ numbered_answer (nodes_at d.now at n) (sheet_at s.now) i }
+fn ask_numbered(s: &[u8], i: u64, nodes: &Nodes) -> Result<bool, Refusal>
+    requires { SheetStands s.now }
+    ensures { result ≡ numbered_answer (nodes_in nodes.now) (sheet_at s.now) i }
 {
     let subscriptions = subscriptions_in(s);
     let count = subscriptions.count as u64;
     if i < count {
         let x = subscriptions.places[i as usize];
-        return Ok(ask(s, x, d, at, n));
+        return Ok(ask(s, x, nodes));
     }
     Err(Refusal::NotThere)
 }
@@ -76,7 +77,7 @@ pub fn subscription_matches(s: &[u8], d: &[u8], i: u64) -> Result<bool, Refusal>
     ensures { result ≡ matches_answer s.now d.now i }
 {
     sheet_and_document(s, d)?;
-    ask_numbered(s, i, d, node_place(d), node_count(d))
+    ask_numbered(s, i, &nodes_of(d))
 }
 
 // The sheet first, then the table (12 last), then the document.
@@ -103,9 +104,7 @@ pub fn table_route(s: &[u8], t: &[u8], d: &[u8]) -> Result<Tabled, Refusal>
         t,
         entry_count,
         &entries.places,
-        d,
-        node_place(d),
-        node_count(d),
+        &nodes_of(d),
     ))
 }
 
@@ -125,9 +124,7 @@ fn seek(s: &[u8], t: &[u8], d: &[u8]) -> Result<Tried, Refusal>
         t,
         entry_count,
         &entries.places,
-        d,
-        node_place(d),
-        node_count(d),
+        &nodes_of(d),
     ))
 }
 

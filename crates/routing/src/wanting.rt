@@ -1,19 +1,20 @@
 // Does anyone want a document? Entries and members are tried in the order of the route by a table, until a member matches.
 ghost use Rattle.std.specs.Prelude.{◌≡◌, not, eqb, ◌^◌, ◌<◌};
 ghost use Rattle.meaning.specs.Routing.{table_route, members_say, answer_comes, tried_until_wanted};
-ghost use Rattle.shapes.specs.Shapes.{nodes_at, entry_of, WellFormed};
+ghost use Rattle.shapes.specs.Nodes.{nodes_in};
+ghost use Rattle.shapes.specs.Shapes.{entry_of, WellFormed};
 ghost use Rattle.reading.specs.SheetPlaces.{sheet_at};
 ghost use Rattle.subscriptions.specs.Taken.{subscriptions_lent};
 ghost use Rattle.subscriptions.specs.Subscribed.{SubscriptionsStand};
 ghost use Rattle.tables.specs.TableSection.{table_at, entries_lent};
 ghost use Rattle.tables.specs.TableJudged.{EntriesStand};
-ghost use Rattle.documents.specs.DocumentJudged.{NodesStand};
 ghost use Rattle.routing.specs.Wanting.{ask_in_turn};
 
 use crate::by_table::try_member;
 use matching::{Tried, try_pattern};
 use meaning::{MOST_ENTRIES, MOST_PATTERNS};
 use shapes::Entry;
+use shapes::nodes::Nodes;
 use tables::entry_at;
 
 // Members are tried until one matches.
@@ -21,19 +22,17 @@ fn seek_members(
     s: &[u8],
     count: usize,
     places: &[usize; MOST_PATTERNS],
-    d: &[u8],
-    at: usize,
-    n: usize,
+    nodes: &Nodes,
     members: u64,
     tried: usize,
 ) -> Tried
-    requires { SubscriptionsStand s.now (subscriptions_lent count places.now) × NodesStand d.now at n × (tried < 2 ^ 31) }
-    ensures { result ≡ ask_in_turn (members_say (nodes_at d.now at n) (sheet_at s.now).patterns members) tried }
+    requires { SubscriptionsStand s.now (subscriptions_lent count places.now) × (tried < 2 ^ 31) }
+    ensures { result ≡ ask_in_turn (members_say (nodes_in nodes.now) (sheet_at s.now).patterns members) tried }
 {
     let mut so_far = tried;
     for i in 0..count {
         let x = places[i];
-        let asked = try_member(s, x, d, at, n, members, i, so_far);
+        let asked = try_member(s, x, nodes, members, i, so_far);
         if asked.yes {
             return asked;
         }
@@ -50,18 +49,16 @@ fn seek_entry(
     s: &[u8],
     count: usize,
     places: &[usize; MOST_PATTERNS],
-    d: &[u8],
-    at: usize,
-    n: usize,
+    nodes: &Nodes,
     e: Entry,
     tried: usize,
 ) -> Tried
-    requires { SubscriptionsStand s.now (subscriptions_lent count places.now) × NodesStand d.now at n × WellFormed e.pattern × (tried < 2 ^ 30) }
-    ensures { result ≡ ask_in_turn (answer_comes (nodes_at d.now at n) (sheet_at s.now).patterns (entry_of e)) tried }
+    requires { SubscriptionsStand s.now (subscriptions_lent count places.now) × WellFormed e.pattern × (tried < 2 ^ 30) }
+    ensures { result ≡ ask_in_turn (answer_comes (nodes_in nodes.now) (sheet_at s.now).patterns (entry_of e)) tried }
 {
-    let asked = try_pattern(d, at, n, e.pattern, tried);
+    let asked = try_pattern(nodes, e.pattern, tried);
     if asked.yes {
-        return seek_members(s, count, places, d, at, n, e.members, asked.tried);
+        return seek_members(s, count, places, nodes, e.members, asked.tried);
     }
     asked
 }
@@ -74,19 +71,16 @@ pub fn seek_entries(
     t: &[u8],
     entry_count: usize,
     entry_places: &[usize; MOST_ENTRIES],
-    d: &[u8],
-    at: usize,
-    n: usize,
+    nodes: &Nodes,
 ) -> Tried
-    requires { SubscriptionsStand s.now (subscriptions_lent count places.now) × EntriesStand t.now (entries_lent entry_count entry_places.now)
-        × NodesStand d.now at n }
-    ensures { (result.yes ≡ not (eqb (table_route (nodes_at d.now at n) (table_at t.now) (sheet_at s.now).patterns) 0))
-        × (result.tried ≡ tried_until_wanted (nodes_at d.now at n) (table_at t.now) (sheet_at s.now).patterns) }
+    requires { SubscriptionsStand s.now (subscriptions_lent count places.now) × EntriesStand t.now (entries_lent entry_count entry_places.now) }
+    ensures { (result.yes ≡ not (eqb (table_route (nodes_in nodes.now) (table_at t.now) (sheet_at s.now).patterns) 0))
+        × (result.tried ≡ tried_until_wanted (nodes_in nodes.now) (table_at t.now) (sheet_at s.now).patterns) }
 {
     let mut so_far = 0;
     for j in 0..entry_count {
         let e = entry_at(t, entry_places[j]);
-        let asked = seek_entry(s, count, places, d, at, n, e, so_far);
+        let asked = seek_entry(s, count, places, nodes, e, so_far);
         if asked.yes {
             return asked;
         }

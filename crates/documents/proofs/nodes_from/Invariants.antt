@@ -1,6 +1,5 @@
 -- `documents::nodes_from` meets its contract.
 -- The invariant: i nodes are read, and the next one stands at x.
-use Prim.Native.Nat.{◌-◌}
 use Rattle.places.specs.ReadingLoop.{ReadSoFar}
 use Rattle.documents.specs.DocumentSection.{node_place}
 use Rattle.documents.proofs.nodes_from.Given as goal

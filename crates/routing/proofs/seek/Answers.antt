@@ -1,21 +1,25 @@
 -- `routing::seek` meets its contract: by the place that was reached.
 use Rattle.std.proofs.lemmas.Result.{err_from_is_err_and}
-use mathlib.Core.Path.{sym, ◌∙◌}
-use Rattle.routing.specs.ThreeJudged.{three_stand}
+use mathlib.Core.Path.{refl, sym, ◌∙◌}
+use Rattle.documents.specs.DocumentSection.{document_at}
+use Rattle.routing.specs.ThreeJudged.{three_nodes, three_stand}
 use Rattle.routing.specs.Sought.{sought_refused, sought_told}
 use Rattle.routing.proofs.seek.Goals as goal
+
+pub nodes_of-requires : goal.nodes_of-requires
+nodes_of-requires c = three_nodes _ _ _ (sym c.sheet_table_and_document.ensures ∙ c.in_ok-sheet_table_and_document.was) refl refl
 
 pub seek_entries-requires : goal.seek_entries-requires
 seek_entries-requires c =
     let judged = sym c.sheet_table_and_document.ensures ∙ c.in_ok-sheet_table_and_document.was in
-    three_stand _ _ _ judged c.subscriptions_in-subscriptions.ensures c.entries_in-entries.ensures
-    c.node_place.ensures.0 c.node_count.ensures.0
+    let stand = three_stand _ _ _ judged c.subscriptions_in-subscriptions.ensures c.entries_in-entries.ensures refl refl in
+    (stand.0, stand.1)
 
 pub returns : goal.returns
+unfolding document_at
 returns c =
     let judged = sym c.sheet_table_and_document.ensures ∙ c.in_ok-sheet_table_and_document.was in
-    sought_told _ _ _ judged c.node_place.ensures.0 c.node_count.ensures.0
-    c.seek_entries.ensures
+    sought_told _ _ _ judged refl refl (rw c.nodes_of.ensures at c.seek_entries.ensures)
 
 pub returns-in_err-sheet_table_and_document : goal.returns-in_err-sheet_table_and_document
 returns-in_err-sheet_table_and_document c =

@@ -11,7 +11,7 @@ pub ask_entry-so_far-requires : goal.ask_entry-so_far-requires
 ask_entry-so_far-requires c =
     let pre = c.requires in
     let here = entry_here _ _ pre.1 c.loop-j.j _ (omega arith) c.entry_at-e.ensures in
-    (pre.0, pre.2, here.1, omega (arith, pre.1.few))
+    (pre.0, here.1, omega (arith, pre.1.few))
 
 pub loop-j-preserved : goal.loop-j-preserved
 loop-j-preserved c =

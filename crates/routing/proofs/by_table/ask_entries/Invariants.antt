@@ -1,10 +1,9 @@
 -- `routing::by_table::ask_entries` meets its contract: what is left from entry j on gives the whole route.
-use Prim.Native.Nat.{◌-◌}
-use Rattle.shapes.specs.Shapes.{nodes_at}
+use Rattle.shapes.specs.Nodes.{nodes_in}
 use Rattle.reading.specs.SheetPlaces.{sheet_at}
 use Rattle.tables.specs.TableSection.{table_at}
 use Rattle.routing.specs.Tabling.{TryingEntries}
 use Rattle.routing.proofs.by_table.ask_entries.Given as goal
 
 abbrev pub invariant-loop-j : goal.invariant-loop-j
-invariant-loop-j l = TryingEntries (nodes_at l.d l.at l.n) (sheet_at l.s).patterns (table_at l.t) l.j l.so_far
+invariant-loop-j l = TryingEntries (nodes_in l.nodes) (sheet_at l.s).patterns (table_at l.t) l.j l.so_far

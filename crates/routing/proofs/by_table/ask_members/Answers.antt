@@ -10,7 +10,7 @@ loop-i-init c = members-start
 pub ask_member-so_far-requires : goal.ask_member-so_far-requires
 ask_member-so_far-requires c =
     let pre = c.requires in
-    (omega (arith, pre.0.few), (pre.0.taken c.loop-i.i (omega arith)).1, pre.1, omega (arith, pre.0.few))
+    (omega (arith, pre.0.few), (pre.0.taken c.loop-i.i (omega arith)).1, omega (arith, pre.0.few))
 
 pub loop-i-preserved : goal.loop-i-preserved
 loop-i-preserved c =

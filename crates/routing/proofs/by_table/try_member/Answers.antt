@@ -5,7 +5,7 @@ use Rattle.routing.proofs.by_table.try_member.Goals as goal
 pub try_pattern-requires : goal.try_pattern-requires
 try_pattern-requires c =
     let pre = c.requires in
-    (rw c.pattern_at.ensures pre.1, pre.2.few, pre.2.inside, pre.2.rising, pre.3)
+    (rw c.pattern_at.ensures pre.1, pre.2)
 
 pub returns-then-is_member : goal.returns-then-is_member
 returns-then-is_member c =

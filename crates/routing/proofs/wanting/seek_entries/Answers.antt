@@ -10,7 +10,7 @@ pub seek_entry-asked-requires : goal.seek_entry-asked-requires
 seek_entry-asked-requires c =
     let pre = c.requires in
     let here = entry_here _ _ pre.1 c.loop-j.j _ (omega arith) c.entry_at-e.ensures in
-    (pre.0, pre.2, here.1, omega (arith, pre.1.few, c.loop-j.invariant.few))
+    (pre.0, here.1, omega (arith, pre.1.few, c.loop-j.invariant.few))
 
 pub returns-then-asked : goal.returns-then-asked
 returns-then-asked c =

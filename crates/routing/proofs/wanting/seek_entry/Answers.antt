@@ -7,12 +7,12 @@ use Rattle.routing.proofs.wanting.seek_entry.Goals as goal
 pub try_pattern-asked-requires : goal.try_pattern-asked-requires
 try_pattern-asked-requires c =
     let pre = c.requires in
-    (pre.2, pre.1.few, pre.1.inside, pre.1.rising, omega arith)
+    (pre.1, omega arith)
 
 pub seek_members-requires : goal.seek_members-requires
 seek_members-requires c =
     let pre = c.requires in
-    (pre.0, pre.1, omega (arith, c.try_pattern-asked.ensures.1))
+    (pre.0, omega (arith, c.try_pattern-asked.ensures.1))
 
 pub returns-then-asked : goal.returns-then-asked
 unfolding entry_of

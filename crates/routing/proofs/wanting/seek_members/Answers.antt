@@ -10,7 +10,7 @@ loop-i-init c = seeking_starts
 pub try_member-asked-requires : goal.try_member-asked-requires
 try_member-asked-requires c =
     let pre = c.requires in
-    (omega (arith, pre.0.few), (pre.0.taken c.loop-i.i (omega arith)).1, pre.1, omega (arith, pre.0.few, c.loop-i.invariant.few))
+    (omega (arith, pre.0.few), (pre.0.taken c.loop-i.i (omega arith)).1, omega (arith, pre.0.few, c.loop-i.invariant.few))
 
 pub returns-then-asked : goal.returns-then-asked
 returns-then-asked c =

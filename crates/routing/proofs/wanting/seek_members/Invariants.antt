@@ -1,9 +1,8 @@
 -- `routing::wanting::seek_members` meets its contract: asking from subscription i on gives what asking all gives.
-use Prim.Native.Nat.{◌-◌}
-use Rattle.shapes.specs.Shapes.{nodes_at}
+use Rattle.shapes.specs.Nodes.{nodes_in}
 use Rattle.reading.specs.SheetPlaces.{sheet_at}
 use Rattle.routing.specs.Wanting.{SeekingMembers}
 use Rattle.routing.proofs.wanting.seek_members.Given as goal
 
 abbrev pub invariant-loop-i : goal.invariant-loop-i
-invariant-loop-i l = SeekingMembers (nodes_at l.d l.at l.n) (sheet_at l.s).patterns l.members l.tried l.i l.so_far
+invariant-loop-i l = SeekingMembers (nodes_in l.nodes) (sheet_at l.s).patterns l.members l.tried l.i l.so_far
