@@ -6,8 +6,6 @@ ghost use Rattle.meaning.specs.Given.{by_number};
 ghost use Rattle.meaning.specs.Promises.{CoversGives, MergeGives, BuildGives};
 ghost use Rattle.meaning.specs.Promises.{ReadLineGives, WritePatternGives, WriteSubscriptionGives};
 
-
-
 // Whether one subscription covers another: the number, and yes or no.
 #[repr(C)]
 #[derive(Clone, Copy)]

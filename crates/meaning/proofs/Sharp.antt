@@ -41,7 +41,7 @@ by_number_tells n m v w e = (same_number e, same-values e)
 numbered_refusal : ℕ → Refusal
 numbered_refusal n =
     get_or (EndsEarly ∷ EndsEarly ∷ BytesRemain ∷ LabelLength ∷ LabelTwice ∷ CountOutside ∷ ParentRule ∷ AxisUnknown ∷ LabelOutside ∷ SecondNear
-        ∷ NoRoom ∷ NotThere ∷ NotFair ∷ NotALine ∷ LabelUnknown ∷ NotWritable ∷ []) n EndsEarly
+    ∷ NoRoom ∷ NotThere ∷ NotFair ∷ NotALine ∷ LabelUnknown ∷ NotWritable ∷ []) n EndsEarly
 
 numbered_back : (r : Refusal) → numbered_refusal (refusal_number r) ≡ r
 unfolding numbered_refusal

@@ -13,9 +13,9 @@ unfolding step_in
 loop-k-preserved c =
     let so_far = c.loop-k.invariant.1 in
     elim c.if-near_root.branch [
-      then-near_root w ↦
+      | then-near_root w ↦
           rw w.n-is (omega arith, near-counted _ c.requires c.loop-k.k _ _ so_far (omega arith) (sym c.near_root.ensures ∙ w.if-near_root.true))
-    | else-near_root w ↦
+      | else-near_root w ↦
           rw w.n-is (omega arith, near_not _ c.requires c.loop-k.k _ _ so_far (omega arith) (sym c.near_root.ensures ∙ w.if-near_root.false))
     ]
 
