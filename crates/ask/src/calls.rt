@@ -46,8 +46,8 @@ fn question(l: u8) -> Option<()> {
     let s = &buf[..n];
     match l {
         b'S' => sheet_check(s),
-        b'D' => document_check(s),
-        b'T' => table_check(s),
+        b'D' => judged(s, hub::document_check),
+        b'T' => judged(s, hub::table_check),
         b'M' => matches(s),
         b'C' => covers(s),
         b'G' => merge(s),
@@ -68,17 +68,25 @@ fn sheet_check(s: &[u8]) -> Option<()> {
     Some(())
 }
 
-fn document_check(s: &[u8]) -> Option<()> {
-    let mut d = io::large_buffer();
-    let m = input::bytes(&mut d)?;
-    output::number(number_given(hub::document_check(s, &d[..m])));
+// Bytes, which are judged beside the sheet.
+fn judged<F: FnOnce(&[u8], &[u8]) -> Result<(), Refusal>>(s: &[u8], check: F) -> Option<()>
+    requires { F.IsAlwaysCallable check }
+{
+    let mut buf = io::large_buffer();
+    let n = input::bytes(&mut buf)?;
+    output::number(number_given(check(s, &buf[..n])));
     Some(())
 }
 
-fn table_check(s: &[u8]) -> Option<()> {
-    let mut t = io::large_buffer();
-    let k = input::bytes(&mut t)?;
-    output::number(number_given(hub::table_check(s, &t[..k])));
+// Room, which the call writes to; its bytes are the last value of the line.
+fn with_room<F: FnOnce(&mut [u8])>(call: F) -> Option<()>
+    requires { F.IsAlwaysCallable call }
+{
+    let mut buf = [LENT; 65535];
+    let n = input::room(&buf)?;
+    let out = &mut buf[..n];
+    call(out);
+    output::bytes(out);
     Some(())
 }
 
@@ -114,10 +122,7 @@ fn asked(a: Result<bool, Refusal>) {
 fn merge(s: &[u8]) -> Option<()> {
     let i = input::number()?;
     let j = input::number()?;
-    let mut out = [LENT; 65535];
-    let room = input::room(&out)?;
-    merge_to(s, i, j, &mut out[..room]);
-    Some(())
+    with_room(|out| merge_to(s, i, j, out))
 }
 
 fn merge_to(s: &[u8], i: u64, j: u64, out: &mut [u8]) {
@@ -133,15 +138,11 @@ fn merge_to(s: &[u8], i: u64, j: u64, out: &mut [u8]) {
             output::truth(false);
         }
     }
-    output::bytes(out);
 }
 
 fn build(s: &[u8]) -> Option<()> {
     let limit = input::limit()?;
-    let mut out = [LENT; 65535];
-    let room = input::room(&out)?;
-    build_to(s, limit, &mut out[..room]);
-    Some(())
+    with_room(|out| build_to(s, limit, out))
 }
 
 fn build_to(s: &[u8], limit: u16, out: &mut [u8]) {
@@ -157,7 +158,6 @@ fn build_to(s: &[u8], limit: u16, out: &mut [u8]) {
             output::value(0);
         }
     }
-    output::bytes(out);
 }
 
 fn plain_route(s: &[u8]) -> Option<()> {
@@ -224,10 +224,7 @@ fn with_bytes<F: FnOnce(&[u8], &[u8], &mut [u8])>(s: &[u8], call: F) -> Option<(
 {
     let mut text = io::large_buffer();
     let m = input::bytes(&mut text)?;
-    let mut out = [LENT; 65535];
-    let room = input::room(&out)?;
-    call(s, &text[..m], &mut out[..room]);
-    Some(())
+    with_room(|out| call(s, &text[..m], out))
 }
 
 fn read_line_to(s: &[u8], line: &[u8], out: &mut [u8]) {
@@ -243,25 +240,15 @@ fn read_line_to(s: &[u8], line: &[u8], out: &mut [u8]) {
             output::value(0);
         }
     }
-    output::bytes(out);
 }
 
 fn write_pattern_to(s: &[u8], p: &[u8], out: &mut [u8]) {
     written(hub::write_pattern(s, p, out));
-    output::bytes(out);
 }
 
 fn write_subscription(s: &[u8]) -> Option<()> {
     let i = input::number()?;
-    let mut out = [LENT; 65535];
-    let room = input::room(&out)?;
-    write_subscription_to(s, i, &mut out[..room]);
-    Some(())
-}
-
-fn write_subscription_to(s: &[u8], i: u64, out: &mut [u8]) {
-    written(hub::write_subscription(s, i, out));
-    output::bytes(out);
+    with_room(|out| written(hub::write_subscription(s, i, out)))
 }
 
 // The number, and how many bytes were written.
