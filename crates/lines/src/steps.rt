@@ -64,8 +64,12 @@ pub fn steps_of(s: &[u8], line: &[u8]) -> Result<Found, usize>
         let mode = c.mode;
         match turn_at(mode, line[at]) {
             Turn::Stuck => return Err(at),
-            Turn::Moves(m) => c = moved_course(c, m),
-            Turn::Opens => c = opened_course(c, &mut opens),
+            Turn::Moves(m) => {
+                c = moved_course(c, m);
+            }
+            Turn::Opens => {
+                c = opened_course(c, &mut opens);
+            }
             Turn::Closes => {
                 if c.depth == 0 {
                     return Err(at);

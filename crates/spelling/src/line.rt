@@ -20,13 +20,9 @@ fn all_writable(s: &[u8], p: Pattern) -> bool
     requires { WellFormed p }
     ensures { result ≡ every (step_writable (sheet_at s.now).labels) (steps_of (pattern_of p)) }
 {
-    for k in 0..p.count {
-        let x = p.steps[k];
-        if !writable(label_at(s, x.label as usize)) {
-            return false;
-        }
-    }
-    true
+    p.steps()
+        .iter()
+        .all(|x| writable(label_at(s, x.label as usize)))
 }
 
 // Writes a pattern as a line, beside a sheet that was judged.
