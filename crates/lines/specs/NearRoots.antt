@@ -1,10 +1,8 @@
 -- How many near steps with parent 0 a pattern has, as a loop counts them.
 use Prim.Native.Nat.{ℕ, suc, ◌+◌, ◌≤◌, ◌<◌}
-use Rattle.std.specs.Prelude.{◌≡◌, true, false, List, [], ◌∷◌, length, drop, count_by, filter}
-use Rattle.meaning.specs.declared.Step.{Step}
-use Rattle.std.proofs.Math.Path.{refl, sym, ap}
-use Rattle.std.proofs.Common.{◌∙◌, arith}
-use Rattle.std.proofs.lemmas.List.Sums.{length-filter}
+use Rattle.std.specs.Prelude.{◌≡◌, true, false, length, drop}
+use Rattle.std.proofs.Math.Path.{refl}
+use Rattle.std.proofs.Common.{arith}
 use Rattle.std.proofs.Math.Numerals.{add-one}
 use Rattle.base.specs.Choice.{pick}
 use Rattle.base.specs.Lists.{keep}
@@ -16,15 +14,6 @@ use Rattle.shapes.specs.declared.Pattern.{Pattern}
 -- those from step k on
 unfoldable pub near_roots_from : Pattern → ℕ → ℕ
 near_roots_from p k = length (keep is_near_root (drop k (steps_in p)))
-
--- counted, or kept
-pub near_roots_kept : (ss : List Step) → count_by is_near_root ss ≡ length (keep is_near_root ss)
-unfolding keep pick
-near_roots_kept ss = sym (length-filter is_near_root ss) ∙ ap length (filtered ss)
-  where
-    filtered : (xs : List Step) → filter is_near_root xs ≡ keep is_near_root xs
-    filtered [] = refl
-    filtered (x ∷ xs) = ap (λ (l : List Step). pick (is_near_root x) (x ∷ l) l) (filtered xs)
 
 module _ (p : Pattern) (sound : WellFormed p) (k n whole : ℕ) (left : n + near_roots_from p k ≡ whole) where
   -- one more

@@ -1,8 +1,6 @@
 -- Whether the labels of a pattern's steps can stand in a line, step by step.
-use Rattle.std.specs.Prelude.{ℕ, ◌+◌, ◌≤◌, ◌<◌, ◌≡◌, Bool, true, false, not, ◌&&◌, List, [], ◌∷◌, drop, IsTrue, ◌↔◌}
-use Rattle.std.specs.List.{list_all, AllPass}
-use Rattle.std.proofs.lemmas.List.Sums.{AllPass-from_list_all, list_all-from_AllPass}
-use Rattle.std.proofs.Math.Path.{refl, sym, ap}
+use Rattle.std.specs.Prelude.{ℕ, ◌+◌, ◌≤◌, ◌<◌, ◌≡◌, Bool, true, false, not, List, drop}
+use Rattle.std.proofs.Math.Path.{sym, ap}
 use Rattle.std.proofs.Common.{◌∙◌}
 use Rattle.std.proofs.Math.Numerals.{add-one}
 use borrow.Author.Tests.{not-true, not-false}
@@ -14,7 +12,6 @@ use Rattle.meaning.specs.LineCalls.{step_writable}
 use Rattle.shapes.specs.Shapes.{steps_in, pattern_of, WellFormed}
 use Rattle.shapes.specs.Steps.{step_in, steps_from_lem, steps-end}
 use Rattle.shapes.specs.declared.Pattern.{Pattern}
-use Rattle.meaning.specs.declared.Step.{Step}
 
 -- k steps are passed: those that are left decide
 pub record WritableSoFar (ls : List (List ℕ)) (p : Pattern) (k : ℕ) : Type 0 where
@@ -45,19 +42,3 @@ module _ {ls : List (List ℕ)} {p : Pattern} (sound : WellFormed p) where
     pub steps-done : p.count ≤ k → true ≡ every (step_writable ls) (steps_of (pattern_of p))
     unfolding every
     steps-done h = sym (rw (steps-end p sound k h)) ∙ so_far.left
-
--- ---- asked of all at once
-
--- a yes is given exactly where the test holds of each
-pub all_asked : (p : Step → Bool) (ss : List Step) (r : Bool) → (IsTrue r ↔ AllPass p ss) → r ≡ every p ss
-unfolding every
-all_asked p ss r h = go r (list_all p ss) refl h ∙ same ss
-  where
-    same : (xs : List Step) → list_all p xs ≡ every p xs
-    same [] = refl
-    same (x ∷ xs) = ap (λ (b : Bool). p x && b) (same xs)
-
-    go : (t u : Bool) → list_all p ss ≡ u → (IsTrue t ↔ AllPass p ss) → t ≡ list_all p ss
-    go true u e k = sym (list_all-from_AllPass p ss (k.0 refl))
-    go false true e k = k.1 (AllPass-from_list_all p ss e) ∙ sym e
-    go false false e k = sym e
