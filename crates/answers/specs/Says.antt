@@ -1,9 +1,8 @@
 -- What the calls say of a sheet that was judged; and each answer, from the place where judging the sheet ended.
-use Rattle.std.specs.Prelude.{ℕ, ◌≤◌, ◌<◌, ◌≡◌, Bool, ◌&&◌, List, ltb, Result, Ok, Err}
+use Rattle.std.specs.Prelude.{ℕ, ◌≤◌, ◌<◌, ◌≡◌, Bool, ◌&&◌, List, Result, Ok, Err}
 use Rattle.std.proofs.Math.Path.{refl}
 use Rattle.std.proofs.Common.{ap, ap₂, ◌∙◌}
 use Rattle.std.proofs.Math.Bool.{true, false}
-use borrow.Author.Tests.{lt-ltb, le-ltb}
 use Rattle.base.specs.Bools.{and_both}
 use Rattle.base.specs.Choice.{pick, pick_true, pick_false}
 use Rattle.meaning.specs.Forest.{Forest}
@@ -19,7 +18,7 @@ use Rattle.reading.specs.SheetPlaces.{sheet_at}
 use Rattle.reading.specs.SheetSection.{sheet_place}
 use Rattle.reading.specs.SheetJudged.{sheet-said, sheet-refused}
 use Rattle.subscriptions.specs.declared.Subscriptions.{Subscriptions}
-use Rattle.subscriptions.specs.Subscribed.{SubscriptionsStand}
+use Rattle.subscriptions.specs.Subscribed.{SubscriptionsStand, number_subscribed, number_unsubscribed}
 use Rattle.meaning.specs.declared.Refusal.TheVariants.{NotThere}
 use Rattle.meaning.specs.declared.Refusal.{Refusal}
 
@@ -52,24 +51,36 @@ build_says sh limit = table_says (build limit sh.patterns)
 
 -- ---- the two numbers
 
-module _ {s : List ℕ} {v : Subscriptions} (stand : SubscriptionsStand s v) (i j : ℕ) where
-  -- below the count of subscriptions both are there
-  pub both_there_lem : i < v.count → j < v.count → both_there (sheet_at s) i j ≡ true
-  unfolding both_there is_subscription
-  both_there_lem h k = rw (← stand.counted) (and_both _ _ (lt-ltb i v.count h) (lt-ltb j v.count k))
+module _ (sh : Sheet) (i j : ℕ) where
+  -- each is that of a subscription
+  pub both_asked : is_subscription sh i ≡ true → is_subscription sh j ≡ true → both_there sh i j ≡ true
+  unfolding both_there
+  both_asked h k = and_both _ _ h k
 
-  -- from that count on one is not
-  pub first-not_there : v.count ≤ i → both_there (sheet_at s) i j ≡ false
-  unfolding both_there is_subscription
-  first-not_there h = rw (← stand.counted, le-ltb i v.count h)
+  -- one is not
+  pub first_unasked : is_subscription sh i ≡ false → both_there sh i j ≡ false
+  unfolding both_there
+  first_unasked h = rw h
 
-  pub second-not_there : v.count ≤ j → both_there (sheet_at s) i j ≡ false
-  unfolding both_there is_subscription
-  second-not_there h = rw (← stand.counted, le-ltb j v.count h) (no_second (ltb i v.count))
+  pub second_unasked : is_subscription sh j ≡ false → both_there sh i j ≡ false
+  unfolding both_there
+  second_unasked h = rw h (no_second (is_subscription sh i))
     where
       no_second : (b : Bool) → (b && false) ≡ false
       no_second true = refl
       no_second false = refl
+
+module _ {s : List ℕ} {v : Subscriptions} (stand : SubscriptionsStand s v) (i j : ℕ) where
+  -- below the count of subscriptions both are there
+  pub both_there_lem : i < v.count → j < v.count → both_there (sheet_at s) i j ≡ true
+  both_there_lem h k = both_asked _ i j (number_subscribed stand i h) (number_subscribed stand j k)
+
+  -- from that count on one is not
+  pub first-not_there : v.count ≤ i → both_there (sheet_at s) i j ≡ false
+  first-not_there h = first_unasked _ i j (number_unsubscribed stand i h)
+
+  pub second-not_there : v.count ≤ j → both_there (sheet_at s) i j ≡ false
+  second-not_there h = second_unasked _ i j (number_unsubscribed stand j h)
 
 -- where both are there, one covers the other or not
 pub covers_there : (sh : Sheet) (i j : ℕ) (p q : Pattern) (said : Bool) → both_there sh i j ≡ true → pattern_of p ≡ subscription sh i

@@ -14,18 +14,15 @@ use meaning::{Built, MOST_ENTRIES, Refusal};
 use members::alone;
 use shapes::{Entry, Table, no_steps};
 use subscriptions::{Subscriptions, numbered, subscriptions_in};
-use writing::{table_length, write_table};
+use writing::write_table;
 
-// The table with one entry more.
-fn with_entry(t: Table, e: Entry) -> Table
-    requires { WellFormedTable t × (t.count < most_entries) × WellFormed e.pattern }
-    ensures { (table_of result ≡ table_of t ++ (entry_of e ∷ [])) × (result.count ≡ t.count + 1) × WellFormedTable result }
+// Puts one entry more behind those of a table.
+fn add_entry(t: &mut Table, e: Entry)
+    requires { WellFormedTable t.old × (t.old.count < most_entries) × WellFormed e.pattern }
+    ensures { (table_of t.new ≡ table_of t.old ++ (entry_of e ∷ [])) × (t.new.count ≡ t.old.count + 1) × WellFormedTable t.new }
 {
-    let n = t.count;
-    let mut u = t;
-    u.entries[n] = e;
-    u.count = n + 1;
-    u
+    t.entries[t.count] = e;
+    t.count += 1;
 }
 
 // One entry for each subscription.
@@ -42,14 +39,11 @@ pub fn first_entries(s: &[u8], v: Subscriptions) -> Table
         entries: [empty; MOST_ENTRIES],
     };
     for i in 0..v.count {
-        let p = numbered(s, v, i);
-        t = with_entry(
-            t,
-            Entry {
-                members: alone(i),
-                pattern: p,
-            },
-        );
+        let e = Entry {
+            members: alone(i),
+            pattern: numbered(s, v, i),
+        };
+        add_entry(&mut t, e);
     }
     t
 }
@@ -62,12 +56,9 @@ pub fn build_first(s: &[u8], limit: u16, out: &mut [u8]) -> Result<Built, Refusa
 {
     let v = subscriptions_in(s);
     let made = build(limit, first_entries(s, v));
-    let t = made.table;
-    if write_table(out, t) {
-        return Ok(Built {
-            length: table_length(t),
-            rounds: made.rounds,
-        });
-    }
-    Err(Refusal::NoRoom)
+    let length = write_table(out, &made.table)?;
+    Ok(Built {
+        length,
+        rounds: made.rounds,
+    })
 }

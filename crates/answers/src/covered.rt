@@ -6,7 +6,7 @@ ghost use Rattle.answers.specs.Says.{covers_says};
 
 use covering::covers;
 use meaning::Refusal;
-use subscriptions::{numbered, subscriptions_in};
+use subscriptions::{asked, subscriptions_in};
 
 // Does subscription i of a sheet that was judged cover subscription j?
 pub fn covers_numbered(s: &[u8], i: u64, j: u64) -> Result<bool, Refusal>
@@ -14,14 +14,7 @@ pub fn covers_numbered(s: &[u8], i: u64, j: u64) -> Result<bool, Refusal>
     ensures { result ≡ covers_says (sheet_at s.now) i j }
 {
     let v = subscriptions_in(s);
-    let count = v.count as u64;
-    if count <= i {
-        return Err(Refusal::NotThere);
-    }
-    if count <= j {
-        return Err(Refusal::NotThere);
-    }
-    let p = numbered(s, v, i as usize);
-    let q = numbered(s, v, j as usize);
+    let p = asked(s, &v, i)?;
+    let q = asked(s, &v, j)?;
     Ok(covers(p, q))
 }

@@ -10,8 +10,8 @@ ghost use Rattle.answers.specs.Says.{merge_says, marked_says};
 use meaning::{Merged, Refusal};
 use merging::merge;
 use offering::Marked;
-use subscriptions::{numbered, subscriptions_in};
-use writing::{pattern_length, write_pattern};
+use subscriptions::{asked, subscriptions_in};
+use writing::write_pattern;
 
 // Writes what a merge gave.
 fn write_merge(m: Marked, out: &mut [u8]) -> Result<Merged, Refusal>
@@ -19,14 +19,11 @@ fn write_merge(m: Marked, out: &mut [u8]) -> Result<Merged, Refusal>
     ensures { (result ≡ merge_answer (with_room out.old (marked_says (pattern_of m.pattern) m.clipped)))
         × (out.new ≡ after out.old (with_room out.old (marked_says (pattern_of m.pattern) m.clipped))) }
 {
-    let p = m.pattern;
-    if write_pattern(out, p) {
-        return Ok(Merged {
-            length: pattern_length(p),
-            clipped: m.clipped,
-        });
-    }
-    Err(Refusal::NoRoom)
+    let length = write_pattern(out, m.pattern)?;
+    Ok(Merged {
+        length,
+        clipped: m.clipped,
+    })
 }
 
 // Writes the merge of subscription i of a sheet that was judged with subscription j.
@@ -36,14 +33,7 @@ pub fn merge_numbered(s: &[u8], i: u64, j: u64, out: &mut [u8]) -> Result<Merged
         × (out.new ≡ after out.old (with_room out.old (merge_says (sheet_at s.now) i j))) }
 {
     let v = subscriptions_in(s);
-    let count = v.count as u64;
-    if count <= i {
-        return Err(Refusal::NotThere);
-    }
-    if count <= j {
-        return Err(Refusal::NotThere);
-    }
-    let p = numbered(s, v, i as usize);
-    let q = numbered(s, v, j as usize);
+    let p = asked(s, &v, i)?;
+    let q = asked(s, &v, j)?;
     write_merge(merge(p, q), out)
 }

@@ -3,6 +3,7 @@ pub mod Bools
 pub mod Apart
 pub mod Lists
 pub mod ListLaws
+pub mod Chains
 pub mod SomeNumber
 pub mod Replacing
 pub mod Storing

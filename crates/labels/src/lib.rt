@@ -28,7 +28,7 @@ pub fn text_at(s: &[u8], p: usize) -> &[u8]
         return &s[from..];
     }
     let to = from + long;
-    return &s[from..to];
+    &s[from..to]
 }
 
 // The place after that label.
@@ -85,20 +85,14 @@ fn label(s: &[u8], k: usize, d: &[u8], p: usize, i: usize, x: usize) -> Result<u
         return Err(Refusal::EndsEarly);
     }
     let long = byte_at(d, x);
-    if long < 1 {
-        return Err(Refusal::LabelLength);
-    }
-    if LONGEST_LABEL < long {
+    if long < 1 || LONGEST_LABEL < long {
         return Err(Refusal::LabelLength);
     }
     if d.len() - (x + 1) < long {
         return Err(Refusal::EndsEarly);
     }
     let text = text_at(d, x);
-    if occurs(text, s, 1, k) {
-        return Err(Refusal::LabelTwice);
-    }
-    if occurs(text, d, p, i) {
+    if occurs(text, s, 1, k) || occurs(text, d, p, i) {
         return Err(Refusal::LabelTwice);
     }
     Ok(x + 1 + long)
@@ -131,11 +125,8 @@ pub fn after_labels(s: &[u8], p: usize, n: usize) -> usize
 pub fn label_at(s: &[u8], n: usize) -> &[u8]
     ensures { result.now ≡ label_at (labels_in s.now) n }
 {
-    if n == 0 {
+    if n == 0 || byte_at(s, 0) < n {
         return &s[..0];
     }
-    if byte_at(s, 0) < n {
-        return &s[..0];
-    }
-    return text_at(s, after_labels(s, 1, n - 1));
+    text_at(s, after_labels(s, 1, n - 1))
 }

@@ -6,20 +6,12 @@ ghost use Rattle.meaning.specs.Notation.{barred, writable};
 pub fn barred(b: u8) -> bool
     ensures { result ≡ barred b }
 {
-    match b {
-        b'/' | b'*' | b'[' | b']' | b'.' | b'\n' => true,
-        _ => false,
-    }
+    matches!(b, b'/' | b'*' | b'[' | b']' | b'.' | b'\n')
 }
 
 // A label that can stand in a line.
 pub fn writable(text: &[u8]) -> bool
     ensures { result ≡ writable text.now }
 {
-    for &b in text {
-        if barred(b) {
-            return false;
-        }
-    }
-    true
+    text.iter().all(|b| !barred(*b))
 }

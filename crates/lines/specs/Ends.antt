@@ -1,5 +1,5 @@
 -- Where a line may end, by the mode and the number of open brackets.
-use Rattle.std.specs.Prelude.{ℕ, suc, ◌≡◌, refl, Bool, true, false, List, [], ◌∷◌, eqb, length}
+use Rattle.std.specs.Prelude.{ℕ, suc, ◌≡◌, ◌≢◌, refl, Bool, true, false, List, [], ◌∷◌, eqb, length}
 use Rattle.std.proofs.Common.{sym, arith, ne_eqb}
 use Rattle.meaning.specs.Lines.{all_closed, may_end}
 use Rattle.turns.specs.declared.Mode.{Mode}
@@ -15,6 +15,18 @@ may_end_at mode.Opened n = false
 may_end_at mode.OpenedDot n = false
 may_end_at mode.OpenedDotSlash n = false
 may_end_at mode.Ended n = eqb n 0
+
+-- after anything but a dot, a name or a bracket it may not
+pub may_end_nowhere : (m : Mode) (n : ℕ) → m ≢ mode.Dot → m ≢ mode.Ended → false ≡ may_end_at m n
+unfolding may_end_at
+may_end_nowhere mode.Start n d e = refl
+may_end_nowhere mode.Dot n d e = absurd (d refl)
+may_end_nowhere mode.Slash n d e = refl
+may_end_nowhere mode.Slashes n d e = refl
+may_end_nowhere mode.Opened n d e = refl
+may_end_nowhere mode.OpenedDot n d e = refl
+may_end_nowhere mode.OpenedDotSlash n d e = refl
+may_end_nowhere mode.Ended n d e = absurd (e refl)
 
 all_closed_lem : (hs : List ℕ) → all_closed hs ≡ eqb (length hs) 0
 unfolding all_closed

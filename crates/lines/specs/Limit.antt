@@ -1,5 +1,5 @@
 -- The limit of 1,024 bytes, as the code puts it on.
-use Rattle.std.specs.Prelude.{ℕ, ◌≤◌, ◌<◌, ◌≡◌, refl, true, false, List, length, take}
+use Rattle.std.specs.Prelude.{ℕ, ◌≤◌, ◌<◌, ◌≡◌, refl, List, length, take, Result, Ok, Err}
 use Rattle.std.proofs.Math.Path.{ap}
 use Rattle.std.proofs.Common.{◌∙◌, ⊎_elim, arith, length-take-le}
 use Rattle.meaning.specs.Numbers.{longest_line}
@@ -23,21 +23,22 @@ short-line line h = go (read_any line) refl
     go (off_at i) e = stays_early line i (place-within line i h e)
     go (draws ds) e = stays-short line ds h
 
-pub within-limit : (ls : List (List ℕ)) (line : List ℕ) (f : Found) → length line ≤ longest_line → FoundIs ls (read_any line) f → FoundIs ls (read_line line) f
+pub within-limit : (ls : List (List ℕ)) (line : List ℕ) (f : Result Found ℕ) → length line ≤ longest_line → FoundIs ls (read_any line) f → FoundIs ls (read_line line) f
 within-limit ls line f h found = rw (short-line line h) found
 
 -- ---- of a longer one the first 1,024 bytes decide
-module _ (ls : List (List ℕ)) (line : List ℕ) (long : longest_line < length line) (f : Found) (found : FoundIs ls (read_any (take longest_line line)) f) where
+module _ (ls : List (List ℕ)) (line : List ℕ) (long : longest_line < length line) where
   -- they are a line: the longer one is refused behind them
-  pub longer-sound : f.sound ≡ true → (r : Found) → r ≡ off_line longest_line → FoundIs ls (read_line line) r
+  pub longer-sound : (f : Found) → FoundIs ls (read_any (take longest_line line)) (Ok f) → (r : Result Found ℕ) → r ≡ off_line longest_line
+      → FoundIs ls (read_line line) r
   unfolding off_line
-  longer-sound e r h =
-      let d = found-drawn ls (read_any (take longest_line line)) f found e in
-      rw (cut_line line long ∙ ap (within line) d.1 ∙ put-long line d.0 long) (rw h (refl, refl))
+  longer-sound f found r h =
+      let d = found-drawn ls (read_any (take longest_line line)) f found in
+      rw (cut_line line long ∙ ap (within line) d.1 ∙ put-long line d.0 long) (rw h refl)
 
   -- they are none: it is refused where they are
-  pub longer_off : f.sound ≡ false → FoundIs ls (read_line line) f
-  longer_off e =
-      let fault = found_off ls (read_any (take longest_line line)) f found e in
+  pub longer_off : (place : ℕ) → FoundIs ls (read_any (take longest_line line)) (Err place) → FoundIs ls (read_line line) (Err place)
+  longer_off place found =
+      let fault = found_off ls (read_any (take longest_line line)) place found in
       let front : length (take longest_line line) ≤ longest_line = omega (arith, length-take-le longest_line line (omega arith)) in
-      rw (cut_line line long ∙ ap (within line) fault ∙ stays_early line f.place (place-within _ f.place front fault)) (e, refl)
+      rw (cut_line line long ∙ ap (within line) fault ∙ stays_early line place (place-within _ place front fault)) refl

@@ -1,7 +1,7 @@
 -- How far the code has read a line, as a stand of the definition from which the rest gives what the whole line gives; and what
 -- each turn does to it.
 use Prim.Native.Nat.{ℕ, zero, suc, ◌+◌, ◌-◌, ◌≤◌, ◌<◌}
-use Rattle.std.specs.Prelude.{◌≡◌, Bool, ◌&&◌, ◌||◌, leb, set}
+use Rattle.std.specs.Prelude.{◌≡◌, Bool, ◌&&◌, ◌||◌, leb, set, Result}
 use Rattle.std.proofs.Math.Path.{refl, sym, ap}
 use Rattle.std.proofs.Common.{◌∙◌, subst, drop_of_length-le}
 use Rattle.std.proofs.Math.Bool.{true, false, not, and-true}
@@ -357,10 +357,10 @@ module _ (ls : List (List ℕ)) (line : List ℕ) where
     reached-end h = rw (ended_there h) (go (may_end_at c.mode c.depth))
       where
         go : (t : Bool) → FoundIs ls (pick t (draws r.stand.found) (off_at c.at)) (pick t (sound_line c steps) (off_line c.at))
-        go true = (refl, steps_are)
-        go false = (refl, refl)
+        go true = steps_are
+        go false = refl
 
   -- a fault
-  pub reached_off : (i : ℕ) (f : Found) → read_any line ≡ off_at i → f ≡ off_line i → FoundIs ls (read_any line) f
+  pub reached_off : (i : ℕ) (f : Result Found ℕ) → read_any line ≡ off_at i → f ≡ off_line i → FoundIs ls (read_any line) f
   unfolding off_line
-  reached_off i f e h = rw (e, h) (refl, refl)
+  reached_off i f e h = rw (e, h) refl

@@ -1,9 +1,8 @@
 -- What the call says of a line, by its steps as the code has them, beside a sheet that was judged.
 use Rattle.std.specs.Prelude.{ℕ, suc, ◌≤◌, ◌<◌, ◌≡◌, Bool, Result, Ok, Err}
 use Rattle.std.proofs.Math.Path.{refl, ap}
-use Rattle.std.proofs.Common.{sym, ◌∙◌, true≢false}
+use Rattle.std.proofs.Common.{sym, ◌∙◌}
 use Rattle.std.proofs.Math.Bool.{true, false}
-use Rattle.std.proofs.lemmas.Bool.{false≢true}
 use mathlib.Core.List.{List, map}
 use native.Mathlib.Omega.{arith}
 use borrow.Author.Tests.{le-leb, lt-leb, leb-true, leb-false}
@@ -19,7 +18,7 @@ use Rattle.meaning.specs.Written.{steps_bytes, pattern_bytes}
 use Rattle.meaning.specs.Notation.{Sketch, Drawn, steps_drawn}
 use Rattle.meaning.specs.Lines.{LineRead, off_at, draws, read_line}
 use Rattle.meaning.specs.Calls.{Writing, refuses, writes, with_room, after}
-use Rattle.meaning.specs.LineCalls.{known_drawn, numbered_step, in_order, drawn_writing, line_judged, line_then, drawn_answer, line_answer, line_output}
+use Rattle.meaning.specs.LineCalls.{known_drawn, numbered_step, in_order, drawn_writing, line_judged, line_then, drawn_answer, output_answer, line_answer, line_output}
 use Rattle.meaning.specs.declared.Step.{Step}
 use Rattle.laws.specs.Bridge.{forest-steps_of}
 use Rattle.laws.specs.LineForest.{drawn_forest, drawn-steps, drawn-bytes}
@@ -53,14 +52,14 @@ LineGives ls line out r now =
 
 -- ---- what was found
 
-pub found_off : (ls : List (List ℕ)) (x : LineRead) (f : Found) → FoundIs ls x f → f.sound ≡ false → x ≡ off_at f.place
-found_off ls (off_at i) f h e = ap off_at (sym h.1)
-found_off ls (draws ds) f h e = absurd (true≢false (sym h.0 ∙ e))
+pub found_off : (ls : List (List ℕ)) (x : LineRead) (place : ℕ) → FoundIs ls x (Err place) → x ≡ off_at place
+found_off ls (off_at i) place h = ap off_at (sym h)
+found_off ls (draws ds) place h = absurd h
 
-pub found-drawn : (ls : List (List ℕ)) (x : LineRead) (f : Found) → FoundIs ls x f → f.sound ≡ true
+pub found-drawn : (ls : List (List ℕ)) (x : LineRead) (f : Found) → FoundIs ls x (Ok f)
     → (ds : List Drawn) × (x ≡ draws ds) × StepsAre ls ds f.known f.pattern
-found-drawn ls (off_at i) f h e = absurd (false≢true (sym h.0 ∙ e))
-found-drawn ls (draws ds) f h e = (ds, refl, h.1)
+found-drawn ls (off_at i) f h = absurd h
+found-drawn ls (draws ds) f h = (ds, refl, h)
 
 -- ---- the steps that a line draws, by value
 
@@ -140,26 +139,54 @@ module _ (known : Bool) (p : Pattern) where
     unfolding pattern_said in_order
     said-written l = pick_true _ _ _ _ e (pick_true _ _ _ _ (le-leb p.count most_steps h) (pick_true _ _ _ _ (le-leb _ 1 (rw counted at l)) refl))
 
+-- ---- a number or a refusal, as a line tells them
+
+module _ (out : List ℕ) (w : Writing (Unit {0})) where
+  told_written : (n : ℕ) (now : List ℕ) → Gives output_answer out w (Ok n) now → Gives drawn_answer out w (Ok n) now
+  unfolding output_answer drawn_answer
+  told_written n now g = (go (with_room out w) g.0, g.1)
+    where
+      go : (v : Writing (Unit {0})) → Ok n ≡ output_answer v → Ok n ≡ drawn_answer v
+      go (refuses why) e = let z : ◌≡◌ {A = ℕ} 0 1 = cc in absurd (omega arith)
+      go (writes u bs) e = cc
+
+  told_refused : (why : Refusal) (now : List ℕ) → Gives output_answer out w (Err why) now → Gives drawn_answer out w (Err (record { why = why; place = 0 })) now
+  unfolding output_answer drawn_answer
+  told_refused why now g = (go (with_room out w) g.0, g.1)
+    where
+      go : (v : Writing (Unit {0})) → Err why ≡ output_answer v → Err (record { why = why; place = 0 }) ≡ drawn_answer v
+      go (refuses given) e = let same : why ≡ given = cc in ap (λ (n : Refusal). Err (record { why = n; place = 0 })) same
+      go (writes u bs) e = let z : ◌≡◌ {A = ℕ} 0 1 = cc in absurd (omega arith)
+
 -- ---- the line, beside a sheet that was judged
 
-module _ (ls : List (List ℕ)) (line out : List ℕ) (f : Found) (found : FoundIs ls (read_line line) f) where
-  pub line_off : f.sound ≡ false → LineGives ls line out (Err (record { why = NotALine; place = f.place })) out
+module _ (ls : List (List ℕ)) (line out : List ℕ) where
+  pub line_off : (place : ℕ) → FoundIs ls (read_line line) (Err place) → LineGives ls line out (Err (record { why = NotALine; place = place })) out
   unfolding line_judged
-  line_off e = rw (found_off ls (read_line line) f found e) (refl, refl)
+  line_off place found = rw (found_off ls (read_line line) place found) (refl, refl)
 
-  pub line_formed : f.sound ≡ true → f.pattern.count ≤ most_steps → WellFormed f.pattern
-  line_formed e h =
-      let d = found-drawn ls (read_line line) f found e in
-      let t = accepted_line line d.0 d.1 in
-      drawn_formed d.2 t.1 t.3 h
+  module _ (f : Found) (found : FoundIs ls (read_line line) (Ok f)) where
+    pub line_formed : f.pattern.count ≤ most_steps → WellFormed f.pattern
+    line_formed h =
+        let d = found-drawn ls (read_line line) f found in
+        let t = accepted_line line d.0 d.1 in
+        drawn_formed d.2 t.1 t.3 h
 
-  pub line-drawn : f.sound ≡ true → (r : Result ℕ LineRefusal) (now : List ℕ) → Gives drawn_answer out (pattern_said f.known f.pattern) r now
-      → LineGives ls line out r now
-  unfolding line_judged
-  line-drawn e r now g =
-      let d = found-drawn ls (read_line line) f found e in
-      let t = accepted_line line d.0 d.1 in
-      rw d.1 (gives_same drawn_answer out _ _ (drawn-said d.2 t.1 t.3) r now g)
+    pub line-drawn : (r : Result ℕ LineRefusal) (now : List ℕ) → Gives drawn_answer out (pattern_said f.known f.pattern) r now
+        → LineGives ls line out r now
+    unfolding line_judged
+    line-drawn r now g =
+        let d = found-drawn ls (read_line line) f found in
+        let t = accepted_line line d.0 d.1 in
+        rw d.1 (gives_same drawn_answer out _ _ (drawn-said d.2 t.1 t.3) r now g)
+
+    -- a refusal is told with the place 0
+    pub line-written : (n : ℕ) (now : List ℕ) → Gives output_answer out (pattern_said f.known f.pattern) (Ok n) now → LineGives ls line out (Ok n) now
+    line-written n now g = line-drawn (Ok n) now (told_written out _ n now g)
+
+    pub line-not_written : (why : Refusal) (now : List ℕ) → Gives output_answer out (pattern_said f.known f.pattern) (Err why) now
+        → LineGives ls line out (Err (record { why = why; place = 0 })) now
+    line-not_written why now g = line-drawn (Err (record { why = why; place = 0 })) now (told_refused out _ why now g)
 
 -- ---- the call, from the place where judging the sheet ended: where the sheet is sound, and where it is refused
 

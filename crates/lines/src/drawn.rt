@@ -3,27 +3,21 @@ ghost use Rattle.std.specs.Prelude.{◌≤◌, ◌≡◌, length};
 ghost use Rattle.base.specs.Lists.{keep};
 ghost use Rattle.meaning.specs.Numbers.{most_steps};
 ghost use Rattle.meaning.specs.Sections.{is_near_root};
-ghost use Rattle.meaning.specs.LineCalls.{drawn_answer};
+ghost use Rattle.meaning.specs.LineCalls.{output_answer};
 ghost use Rattle.shapes.specs.Shapes.{steps_in, WellFormed};
 ghost use Rattle.writing.specs.Gives.{Gives};
 ghost use Rattle.lines.specs.Said.{pattern_said};
 
-use meaning::{LineRefusal, MOST_STEPS, Refusal, Step};
+use crate::steps::Found;
+use meaning::{MOST_STEPS, Refusal, Step};
 use shapes::Pattern;
-use writing::{pattern_length, write_pattern};
-
-// A refusal without a place.
-fn refused(why: Refusal) -> Result<usize, LineRefusal>
-    ensures { result ≡ Err (record { why = why; place = 0 }) }
-{
-    Err(why.into())
-}
+use writing::write_pattern;
 
 // A near step with parent 0.
 fn near_root(x: Step) -> bool
     ensures { result ≡ is_near_root x }
 {
-    if x.parent == 0 { x.axis == 0 } else { false }
+    x.parent == 0 && x.axis == 0
 }
 
 // How many near steps with parent 0 a pattern has.
@@ -31,31 +25,23 @@ fn near_roots(p: Pattern) -> usize
     requires { WellFormed p }
     ensures { result ≡ length (keep is_near_root (steps_in p)) }
 {
-    let mut n = 0;
-    for k in 0..p.count {
-        if near_root(p.steps[k]) {
-            n += 1;
-        }
-    }
-    n
+    p.steps().iter().filter(|x| near_root(**x)).count()
 }
 
 // Writes the steps of a line: first all labels are judged, then the number of steps, the near steps with parent 0, and room.
-pub fn write_drawn(known: bool, p: Pattern, out: &mut [u8]) -> Result<usize, LineRefusal>
-    requires { p.count ≤ most_steps → WellFormed p }
-    ensures { Gives drawn_answer out.old (pattern_said known p) result out.new }
+pub fn write_drawn(f: Found, out: &mut [u8]) -> Result<usize, Refusal>
+    requires { f.pattern.count ≤ most_steps → WellFormed f.pattern }
+    ensures { Gives output_answer out.old (pattern_said f.known f.pattern) result out.new }
 {
+    let Found { known, pattern: p } = f;
     if !known {
-        return refused(Refusal::LabelUnknown);
+        return Err(Refusal::LabelUnknown);
     }
     if MOST_STEPS < p.count {
-        return refused(Refusal::CountOutside);
+        return Err(Refusal::CountOutside);
     }
     if 1 < near_roots(p) {
-        return refused(Refusal::SecondNear);
+        return Err(Refusal::SecondNear);
     }
-    if write_pattern(out, p) {
-        return Ok(pattern_length(p));
-    }
-    refused(Refusal::NoRoom)
+    write_pattern(out, p)
 }

@@ -21,14 +21,13 @@ fn read_judged(s: &[u8], line: &[u8], out: &mut [u8]) -> Result<usize, LineRefus
     requires { SheetStands s.now }
     ensures { LineGives (sheet_at s.now).labels line.now out.old result out.new }
 {
-    let f = steps_within(s, line);
-    if !f.sound {
-        return Err(LineRefusal {
+    match steps_within(s, line) {
+        Ok(found) => Ok(write_drawn(found, out)?),
+        Err(place) => Err(LineRefusal {
             why: Refusal::NotALine,
-            place: f.place,
-        });
+            place,
+        }),
     }
-    write_drawn(f.known, f.pattern, out)
 }
 
 // A line read with a sheet's labels: a step count and the steps, written from the start of the output.

@@ -3,18 +3,18 @@ ghost use Rattle.meaning.specs.Lines.{read_line};
 ghost use Rattle.labels.specs.LabelPlaces.{labels_in};
 ghost use Rattle.lines.specs.Found.{FoundIs};
 
-use crate::steps::{Found, off, steps_of};
+use crate::steps::{Found, steps_of};
 use meaning::LONGEST_LINE;
 
-pub fn steps_within(s: &[u8], line: &[u8]) -> Found
+// The steps of a line, or the place of its first fault, within the limit.
+pub fn steps_within(s: &[u8], line: &[u8]) -> Result<Found, usize>
     ensures { FoundIs (labels_in s.now) (read_line line.now) result }
 {
     if line.len() <= LONGEST_LINE {
         return steps_of(s, line);
     }
-    let f = steps_of(s, &line[..LONGEST_LINE]);
-    if f.sound {
-        return off(LONGEST_LINE);
+    match steps_of(s, &line[..LONGEST_LINE]) {
+        Ok(_) => Err(LONGEST_LINE),
+        Err(place) => Err(place),
     }
-    f
 }

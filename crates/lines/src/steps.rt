@@ -15,63 +15,42 @@ use turns::{Mode, Turn, turn_at};
 // As many brackets as can be open before a seventeenth step is found.
 const MOST_OPEN: usize = MOST_STEPS + 1;
 
-// What a line gives: the place of its first fault; or, where it is sound, whether every label is known, and its steps, which
-// are whole where 16 or fewer are counted.
+// What a sound line gives: whether every label is known, and its steps, which are whole where 16 or fewer are counted.
 #[derive(Clone, Copy)]
 pub struct Found {
-    pub sound: bool,
-    pub place: usize,
     pub known: bool,
     pub pattern: Pattern,
-}
-
-pub fn off(place: usize) -> Found
-    ensures { result ≡ off_line place }
-{
-    Found {
-        sound: false,
-        place,
-        known: false,
-        pattern: no_steps(),
-    }
 }
 
 // A line may end after its dot, and after a name or a bracket where all brackets are closed.
 fn may_end(c: Course) -> bool
     ensures { result ≡ may_end_at c.mode c.depth }
 {
-    let mode = c.mode;
-    match mode {
-        Mode::Start => false,
+    match c.mode {
         Mode::Dot => true,
-        Mode::Slash => false,
-        Mode::Slashes => false,
-        Mode::Opened => false,
-        Mode::OpenedDot => false,
-        Mode::OpenedDotSlash => false,
         Mode::Ended => c.depth == 0,
+        _ => false,
     }
 }
 
 // What the line gives where its bytes end.
-fn at_end(c: Course, steps: [Step; MOST_STEPS]) -> Found
+fn at_end(c: Course, steps: [Step; MOST_STEPS]) -> Result<Found, usize>
     ensures { result ≡ pick (may_end_at c.mode c.depth) (sound_line c steps) (off_line c.at) }
 {
     if !may_end(c) {
-        return off(c.at);
+        return Err(c.at);
     }
-    Found {
-        sound: true,
-        place: 0,
+    Ok(Found {
         known: c.known,
         pattern: Pattern {
             count: c.count,
             steps,
         },
-    }
+    })
 }
 
-pub fn steps_of(s: &[u8], line: &[u8]) -> Found
+// The steps of a line, or the place of its first fault.
+pub fn steps_of(s: &[u8], line: &[u8]) -> Result<Found, usize>
     ensures { FoundIs (labels_in s.now) (read_any line.now) result }
 {
     let none = no_steps();
@@ -82,9 +61,7 @@ pub fn steps_of(s: &[u8], line: &[u8]) -> Found
         let at = c.at;
         let mode = c.mode;
         match turn_at(mode, line[at]) {
-            Turn::Stuck => {
-                return off(at);
-            }
+            Turn::Stuck => return Err(at),
             Turn::Moves(m) => {
                 c = c.moved(m);
             }
@@ -93,7 +70,7 @@ pub fn steps_of(s: &[u8], line: &[u8]) -> Found
             }
             Turn::Closes => {
                 if c.depth == 0 {
-                    return off(at);
+                    return Err(at);
                 }
                 c = c.closed(&opens);
             }

@@ -1,7 +1,7 @@
 -- What the calls say beside a sheet that was judged; and each answer, from the places where judging ended.
-use Rattle.std.specs.Prelude.{ℕ, ◌≤◌, ◌<◌, ◌≡◌, List, length, get_or, Ok, Err}
+use Rattle.std.specs.Prelude.{ℕ, ◌≤◌, ◌<◌, ◌≡◌, true, false, List, length, get_or, Ok, Err}
 use Rattle.std.proofs.Math.Path.{refl, sym, ap}
-use Rattle.std.proofs.Common.{◌∙◌, lt-ltb, le-ltb}
+use Rattle.std.proofs.Common.{◌∙◌}
 use Rattle.base.specs.Choice.{pick, pick_true, pick_false}
 use Rattle.meaning.specs.Forest.{Forest}
 use Rattle.meaning.specs.Sections.{Sheet}
@@ -14,7 +14,7 @@ use Rattle.reading.specs.SheetPlaces.{sheet_at, forest_at, labels-counted}
 use Rattle.reading.specs.SheetSection.{sheet_place}
 use Rattle.reading.specs.SheetJudged.{sheet-said, sheet-refused}
 use Rattle.subscriptions.specs.Taken.{pattern_at}
-use Rattle.subscriptions.specs.Subscribed.{SubscriptionsStand}
+use Rattle.subscriptions.specs.Subscribed.{SubscriptionsStand, number_subscribed, number_unsubscribed}
 use Rattle.subscriptions.specs.declared.Subscriptions.{Subscriptions}
 use Rattle.spelling.specs.OnlyPattern.{only_section, only_place, only_taken}
 use Rattle.meaning.specs.declared.Refusal.TheVariants.{NotThere}
@@ -50,16 +50,25 @@ module _ (s p : List ℕ) (known : ℕ) (counted : known ≡ get_or s 0 0) where
 
 -- ---- a subscription
 
+module _ (sh : Sheet) (i : ℕ) where
+  -- it is there
+  pub asked_there : is_subscription sh i ≡ true → (f : Forest) → f ≡ subscription sh i → text_writing sh.labels f ≡ subscription_says sh i
+  unfolding subscription_says
+  asked_there h f e = pick_true _ _ _ _ h (ap (text_writing sh.labels) e)
+
+  -- it is not
+  pub asked-not_there : is_subscription sh i ≡ false → refuses NotThere ≡ subscription_says sh i
+  unfolding subscription_says
+  asked-not_there h = pick_false _ _ _ _ h refl
+
 module _ {s : List ℕ} {v : Subscriptions} (stand : SubscriptionsStand s v) (i : ℕ) where
   -- below the count it is there
   pub number_there : i < v.count → (f : Forest) → f ≡ subscription (sheet_at s) i → text_writing (sheet_at s).labels f ≡ subscription_says (sheet_at s) i
-  unfolding subscription_says is_subscription
-  number_there h f e = pick_true _ _ _ _ (rw (← stand.counted) (lt-ltb i v.count h)) (ap (text_writing (sheet_at s).labels) e)
+  number_there h = asked_there _ i (number_subscribed stand i h)
 
   -- from the count on it is not
   pub number-not_there : v.count ≤ i → refuses NotThere ≡ subscription_says (sheet_at s) i
-  unfolding subscription_says is_subscription
-  number-not_there h = pick_false _ _ _ _ (rw (← stand.counted) (le-ltb i v.count h)) refl
+  number-not_there h = asked-not_there _ i (number_unsubscribed stand i h)
 
 -- ---- each call, from the place where judging the sheet ended
 

@@ -17,7 +17,7 @@ use meaning::Refusal;
 use places::{byte_at, end};
 use reading::patterns::pattern;
 use reading::sheet;
-use subscriptions::{numbered, pattern_at, subscriptions_in};
+use subscriptions::{asked, pattern_at, subscriptions_in};
 
 // Where a pattern ends that is all of the bytes, or its first fault, with so many labels.
 fn only_pattern(p: &[u8], known: usize) -> Result<usize, Refusal>
@@ -42,10 +42,8 @@ fn write_numbered(s: &[u8], i: u64, out: &mut [u8]) -> Result<usize, Refusal>
     ensures { Gives output_answer out.old (subscription_says (sheet_at s.now) i) result out.new }
 {
     let v = subscriptions_in(s);
-    if v.count as u64 <= i {
-        return Err(Refusal::NotThere);
-    }
-    write_line(s, numbered(s, v, i as usize), out)
+    let p = asked(s, &v, i)?;
+    write_line(s, p, out)
 }
 
 // A pattern's bytes as a line, written from the start of the output.

@@ -22,13 +22,9 @@ fn all_writable(s: &[u8], p: Pattern) -> bool
     requires { WellFormed p }
     ensures { result ≡ every (step_writable (sheet_at s.now).labels) (steps_of (pattern_of p)) }
 {
-    for k in 0..p.count {
-        let x = p.steps[k];
-        if !writable(label_at(s, x.label as usize)) {
-            return false;
-        }
-    }
-    true
+    p.steps()
+        .iter()
+        .all(|x| writable(label_at(s, x.label as usize)))
 }
 
 // Puts a pattern's text at the start of a line: how long it is.

@@ -1,7 +1,8 @@
 -- The subscriptions of a sheet that was judged, by their places: how many there are, and the pattern of each.
-use Rattle.std.specs.Prelude.{ℕ, ◌≤◌, ◌<◌, ◌≡◌, List, length, get_or}
-use Rattle.std.proofs.Common.{arith}
+use Rattle.std.specs.Prelude.{ℕ, ◌≤◌, ◌<◌, ◌≡◌, true, false, List, length, get_or}
+use Rattle.std.proofs.Common.{arith, lt-ltb, le-ltb}
 use Rattle.meaning.specs.Forest.{none}
+use Rattle.meaning.specs.Calls.{is_subscription}
 use Rattle.shapes.specs.Shapes.{pattern_of, WellFormed}
 use Rattle.shapes.specs.declared.Pattern.{Pattern}
 use Rattle.laws.specs.RoundTrip.{sheet-read}
@@ -33,3 +34,13 @@ subscriptions_stand s v stands e =
 pub pattern-here : (s : List ℕ) (v : Subscriptions) → SubscriptionsStand s v → (i : ℕ) (p : Pattern) → i < v.count
     → p ≡ pattern_at s (get_or v.places i 0) → (pattern_of p ≡ get_or (sheet_at s).patterns i none) × WellFormed p
 pattern-here s v stand i p l h = rw h (stand.taken i l)
+
+-- a number below the count is that of a subscription, and one from the count on is not
+module _ {s : List ℕ} {v : Subscriptions} (stand : SubscriptionsStand s v) (i : ℕ) where
+  pub number_subscribed : i < v.count → is_subscription (sheet_at s) i ≡ true
+  unfolding is_subscription
+  number_subscribed h = rw (← stand.counted) (lt-ltb i v.count h)
+
+  pub number_unsubscribed : v.count ≤ i → is_subscription (sheet_at s) i ≡ false
+  unfolding is_subscription
+  number_unsubscribed h = rw (← stand.counted) (le-ltb i v.count h)

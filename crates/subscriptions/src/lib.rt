@@ -1,16 +1,17 @@
 // Patterns by value out of a sheet or a table, and where the subscriptions of a sheet stand.
 #![tactic(auto)]
 
-ghost use Rattle.std.specs.Prelude.{◌≡◌, ◌+◌, ◌*◌, ◌^◌, ◌≤◌, ◌<◌, length};
+ghost use Rattle.std.specs.Prelude.{◌≡◌, ◌+◌, ◌*◌, ◌^◌, ◌≤◌, ◌<◌, true, false, length, MatchResult};
 ghost use Rattle.meaning.specs.Numbers.{most_patterns, most_steps};
-ghost use Rattle.meaning.specs.Calls.{subscription};
+ghost use Rattle.meaning.specs.Calls.{is_subscription, subscription};
+ghost use Rattle.meaning.specs.declared.Refusal.TheVariants.{NotThere};
 ghost use Rattle.shapes.specs.Shapes.{pattern_of, WellFormed};
 ghost use Rattle.reading.specs.SheetPlaces.{step_at_place, after_pattern, sheet_at};
 ghost use Rattle.subscriptions.specs.Taken.{steps_filled, pattern_at, pattern_places, subscriptions_of};
 ghost use Rattle.subscriptions.specs.Subscribed.{SubscriptionsStand};
 
 use labels::after_labels;
-use meaning::{MOST_PATTERNS, MOST_STEPS, Step};
+use meaning::{MOST_PATTERNS, MOST_STEPS, Refusal, Step};
 use places::{byte_at, within};
 use shapes::{Pattern, no_steps};
 
@@ -108,4 +109,17 @@ pub fn numbered(s: &[u8], v: Subscriptions, i: usize) -> Pattern
 {
     let x = v.places[i];
     pattern_at(s, x)
+}
+
+// The pattern of subscription i, where the sheet has one.
+pub fn asked(s: &[u8], v: &Subscriptions, i: u64) -> Result<Pattern, Refusal>
+    requires { SubscriptionsStand s.now v.now }
+    ensures { MatchResult result
+        (λ p. (is_subscription (sheet_at s.now) i ≡ true) × (pattern_of p ≡ subscription (sheet_at s.now) i) × WellFormed p)
+        (λ why. (is_subscription (sheet_at s.now) i ≡ false) × (why ≡ NotThere)) }
+{
+    if v.count as u64 <= i {
+        return Err(Refusal::NotThere);
+    }
+    Ok(numbered(s, *v, i as usize))
 }

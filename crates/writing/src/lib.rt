@@ -1,14 +1,16 @@
 // Writing a pattern and a table into a lent output.
 #![tactic(auto)]
 
-ghost use Rattle.std.specs.Prelude.{◌+◌, ◌≤◌, ◌≡◌, leb, length};
+ghost use Rattle.std.specs.Prelude.{◌+◌, ◌≤◌, ◌≡◌, length};
 ghost use Rattle.std.proofs.lemmas.List.Edits.{sets};
+ghost use Rattle.meaning.specs.Calls.{writes};
+ghost use Rattle.meaning.specs.LineCalls.{output_answer};
 ghost use Rattle.meaning.specs.Written.{step_bytes, pattern_bytes, table_bytes};
 ghost use Rattle.shapes.specs.Shapes.{pattern_of, table_of, WellFormed, WellFormedTable};
 ghost use Rattle.writing.specs.BytesWritten.{bytes_of};
-ghost use Rattle.writing.specs.OutputAfter.{written_over};
+ghost use Rattle.writing.specs.Gives.{Gives};
 
-use meaning::Step;
+use meaning::{Refusal, Step};
 use members::put_members;
 use shapes::{Entry, Pattern, Table};
 
@@ -53,23 +55,23 @@ fn put_entry(out: &mut [u8], at: usize, e: Entry) -> usize
     put_pattern(out, at + 8, e.pattern)
 }
 
-// Writes a pattern where there is room for it, and says whether there was.
-pub fn write_pattern(out: &mut [u8], p: Pattern) -> bool
+// Writes a pattern where there is room for it, and says how many bytes; where there is none, the output is as found.
+pub fn write_pattern(out: &mut [u8], p: Pattern) -> Result<usize, Refusal>
     requires { WellFormed p }
-    ensures { (result ≡ leb (length (pattern_bytes (pattern_of p))) (length out.old))
-        × (out.new ≡ written_over out.old (pattern_bytes (pattern_of p))) }
+    ensures { Gives output_answer out.old (writes tt (pattern_bytes (pattern_of p))) result out.new }
 {
-    if pattern_length(p) > out.len() {
-        return false;
+    let n = pattern_length(p);
+    if out.len() < n {
+        return Err(Refusal::NoRoom);
     }
     put_pattern(out, 0, p);
-    true
+    Ok(n)
 }
 
 // How many bytes a table takes.
-pub fn table_length(t: Table) -> usize
-    requires { WellFormedTable t }
-    ensures { (result ≡ length (table_bytes (table_of t))) × (result ≤ 3649) }
+pub fn table_length(t: &Table) -> usize
+    requires { WellFormedTable t.now }
+    ensures { (result ≡ length (table_bytes (table_of t.now))) × (result ≤ 3649) }
 {
     let mut long = 1;
     for e in t.entries() {
@@ -79,9 +81,9 @@ pub fn table_length(t: Table) -> usize
 }
 
 // A count and the entries, from the output's start.
-fn put_table(out: &mut [u8], t: Table)
-    requires { WellFormedTable t × (length (table_bytes (table_of t)) ≤ length out.old) }
-    ensures { out.new ≡ sets out.old 0 (table_bytes (table_of t)) }
+fn put_table(out: &mut [u8], t: &Table)
+    requires { WellFormedTable t.now × (length (table_bytes (table_of t.now)) ≤ length out.old) }
+    ensures { out.new ≡ sets out.old 0 (table_bytes (table_of t.now)) }
 {
     out[0] = t.count as u8;
     let mut at = 1;
@@ -90,15 +92,15 @@ fn put_table(out: &mut [u8], t: Table)
     }
 }
 
-// Writes a table where there is room for it, and says whether there was.
-pub fn write_table(out: &mut [u8], t: Table) -> bool
-    requires { WellFormedTable t }
-    ensures { (result ≡ leb (length (table_bytes (table_of t))) (length out.old))
-        × (out.new ≡ written_over out.old (table_bytes (table_of t))) }
+// Writes a table where there is room for it, and says how many bytes; where there is none, the output is as found.
+pub fn write_table(out: &mut [u8], t: &Table) -> Result<usize, Refusal>
+    requires { WellFormedTable t.now }
+    ensures { Gives output_answer out.old (writes tt (table_bytes (table_of t.now))) result out.new }
 {
-    if table_length(t) > out.len() {
-        return false;
+    let long = table_length(t);
+    if out.len() < long {
+        return Err(Refusal::NoRoom);
     }
     put_table(out, t);
-    true
+    Ok(long)
 }

@@ -4,12 +4,14 @@ use native.Mathlib.Omega.{arith}
 use Rattle.labels.specs.LabelPlaces.{text_at}
 use Rattle.labels.specs.LabelLoops.{label_zero, label_over, label_there}
 use Rattle.labels.proofs.label_at.Goals as goal
+use Rattle.labels.proofs.label_at.Goals.{then-n-eq0-via-then-n-eq0, then-n-eq0-via-else-n-eq0+then-byte_at-n}
 
 pub returns-then-n-eq0 : goal.returns-then-n-eq0
-returns-then-n-eq0 c = label_zero _ _ (omega arith)
-
-pub returns-then-byte_at-n : goal.returns-then-byte_at-n
-returns-then-byte_at-n c = label_over _ _ (omega (arith, c.byte_at.ensures.0))
+returns-then-n-eq0 c =
+    elim c.then-n-eq0.branch [
+      | then-n-eq0-via-then-n-eq0 w ↦ label_zero _ _ w.if-n-eq0.true
+      | then-n-eq0-via-else-n-eq0+then-byte_at-n w ↦ label_over _ _ (omega (arith, w.if-byte_at-n.true, w.byte_at.ensures.0))
+    ]
 
 pub returns : goal.returns
 returns c =

@@ -1,18 +1,23 @@
 -- `lines::read_judged` meets its contract: where the line is off, the output is as found.
-use borrow.Author.Tests.{not-true, not-false}
+use Rattle.std.proofs.lemmas.Result.{err_from_is_err_and}
 use Rattle.reading.specs.SheetPlaces.{sheet_at}
-use Rattle.lines.specs.Said.{line_off, line_formed, line-drawn}
+use Rattle.lines.specs.Said.{line_off, line_formed, line-written, line-not_written}
 use Rattle.lines.proofs.read_judged.Goals as goal
-
-pub returns-then-not-f : goal.returns-then-not-f
-unfolding sheet_at
-returns-then-not-f c = line_off _ _ _ _ c.steps_within-f.ensures (not-true _ c.if-not-f.true)
 
 pub write_drawn-requires : goal.write_drawn-requires
 write_drawn-requires c =
-    line_formed _ _ c.args.out.now _ c.steps_within-f.ensures (not-false _ c.if-not-f.false)
+    line_formed _ _ c.args.out.now _ c.in-Ok.ensures
 
-pub returns : goal.returns
+pub returns-in_ok-write_drawn-in-Ok : goal.returns-in_ok-write_drawn-in-Ok
 unfolding sheet_at
-returns c =
-    line-drawn _ _ _ _ c.steps_within-f.ensures (not-false _ c.if-not-f.false) _ _ c.write_drawn.ensures
+returns-in_ok-write_drawn-in-Ok c = line-written _ _ _ _ c.in-Ok.ensures _ _ c.in_ok-write_drawn-in-Ok.ensures
+
+pub returns-in_err-write_drawn-in-Ok : goal.returns-in_err-write_drawn-in-Ok
+unfolding sheet_at
+returns-in_err-write_drawn-in-Ok c =
+    let p = err_from_is_err_and c.from_residual.result c.from_residual.ensures.1 in
+    rw (p.1, p.2) (line-not_written _ _ _ _ c.in-Ok.ensures _ _ c.in_err-write_drawn-in-Ok.ensures)
+
+pub returns-in-Err : goal.returns-in-Err
+unfolding sheet_at
+returns-in-Err c = line_off _ _ _ _ c.in-Err.ensures

@@ -1,21 +1,22 @@
 -- `spelling::write_numbered` meets its contract: the number is looked at first.
-use native.Mathlib.Omega.{arith}
+use Rattle.std.proofs.lemmas.Result.{err_from_is_err_and}
 use Rattle.meaning.specs.LineCalls.{output_answer}
 use Rattle.subscriptions.specs.Subscribed.{subscriptions_stand}
 use Rattle.writing.specs.Gives.{gives-refusal, gives_same}
-use Rattle.spelling.specs.TextSays.{number_there, number-not_there}
+use Rattle.spelling.specs.TextSays.{asked_there, asked-not_there}
 use Rattle.spelling.proofs.write_numbered.Goals as goal
 
-pub returns-then-v-i : goal.returns-then-v-i
-unfolding output_answer
-returns-then-v-i c =
-    let stand = subscriptions_stand _ _ c.requires c.subscriptions_in-v.ensures in
-    gives-refusal output_answer _ _ _ (number-not_there stand _ (omega arith))
+pub asked-requires : goal.asked-requires
+asked-requires c = subscriptions_stand _ _ c.requires c.subscriptions_in-v.ensures
 
-pub numbered-requires : goal.numbered-requires
-numbered-requires c = (subscriptions_stand _ _ c.requires c.subscriptions_in-v.ensures, omega arith)
+pub returns-in_err-p : goal.returns-in_err-p
+unfolding output_answer
+returns-in_err-p c =
+    let p = err_from_is_err_and c.from_residual.result c.from_residual.ensures.1 in
+    let no = c.in_err-p.ensures in
+    rw (p.1, p.2, no.1) (gives-refusal output_answer _ _ _ (asked-not_there _ _ no.0))
 
 pub returns : goal.returns
 returns c =
-    let stand = subscriptions_stand _ _ c.requires c.subscriptions_in-v.ensures in
-    gives_same output_answer _ _ _ (number_there stand c.args.i (omega arith) _ c.numbered.ensures.0) _ _ c.write_line.ensures
+    let p = c.in_ok-p.ensures in
+    gives_same output_answer _ _ _ (asked_there _ _ p.0 _ p.1) _ _ c.write_line.ensures

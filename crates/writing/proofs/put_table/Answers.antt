@@ -12,7 +12,7 @@ bounds-out-0 c = omega (arith, c.requires.1, ap length (table_bytes_lem _ c.requ
 pub loop-e-init : goal.loop-e-init
 loop-e-init c =
     let sound = c.requires.0 in
-    let long = length-set c.args.out.now 0 c.args.t.count in
+    let long = length-set c.args.out.now 0 c.args.t.now.count in
     record {
       fits = entries_fit _ sound;
       within = omega arith;
@@ -21,7 +21,7 @@ loop-e-init c =
 
 pub put_entry-at-requires : goal.put_entry-at-requires
 put_entry-at-requires c =
-    let t = c.args.t in
+    let t = c.args.t.now in
     let sound = c.requires.0 in
     let i = c.loop-e.e-index in
     let there = rw (c.entries-e-items.ensures, length-entries t sound) at c.loop-e-test.true in
@@ -30,7 +30,7 @@ put_entry-at-requires c =
 
 pub loop-e-preserved : goal.loop-e-preserved
 loop-e-preserved c =
-    let t = c.args.t in
+    let t = c.args.t.now in
     let sound = c.requires.0 in
     let there = rw (c.entries-e-items.ensures, length-entries t sound) at c.loop-e-test.true in
     let stored = rw (c.entries-e-items.ensures, entry_held t sound c.loop-e.e-index no_entry_value there) at c.put_entry-at.ensures in
@@ -39,5 +39,5 @@ loop-e-preserved c =
 pub returns : goal.returns
 returns c =
     let sound = c.requires.0 in
-    let none_left = rw (c.entries-e-items.ensures, length-entries c.args.t sound) at c.loop-e-test.false in
+    let none_left = rw (c.entries-e-items.ensures, length-entries c.args.t.now sound) at c.loop-e-test.false in
     rw (table_bytes_lem _ sound) (turns_end c.loop-e.invariant none_left).1

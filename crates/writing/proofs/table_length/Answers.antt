@@ -8,13 +8,13 @@ loop-e-init c = measuring_starts _ c.requires
 
 pub pattern_length-requires : goal.pattern_length-requires
 pattern_length-requires c =
-    let t = c.args.t in
+    let t = c.args.t.now in
     let there = rw (c.entries-e-items.ensures, length-entries t c.requires) at c.loop-e-test.true in
     rw (c.entries-e-items.ensures, entry_held t c.requires c.loop-e.e-index no_entry_value there) (entry-sound t c.requires c.loop-e.e-index no_entry_value there)
 
 pub loop-e-preserved : goal.loop-e-preserved
 loop-e-preserved c =
-    let t = c.args.t in
+    let t = c.args.t.now in
     let l = c.loop-e in
     let there = rw (c.entries-e-items.ensures, length-entries t c.requires) at c.loop-e-test.true in
     let long = rw (c.entries-e-items.ensures, entry_held t c.requires l.e-index no_entry_value there) at c.pattern_length.ensures in
@@ -23,5 +23,5 @@ loop-e-preserved c =
 pub returns : goal.returns
 returns c =
     let sound = c.requires in
-    let none_left = rw (c.entries-e-items.ensures, length-entries c.args.t sound) at c.loop-e-test.false in
+    let none_left = rw (c.entries-e-items.ensures, length-entries c.args.t.now sound) at c.loop-e-test.false in
     (measuring_ends _ sound c.loop-e.invariant none_left, omega (arith, sound.few, c.loop-e.invariant.within, c.loop-e.invariant.small))

@@ -1,21 +1,24 @@
 -- `answers::built::build_first` meets its contract: the build from one entry for each subscription, where there is room and where there is none.
+use mathlib.Core.Path.{refl}
+use Rattle.std.proofs.lemmas.Result.{err_from_is_err_and}
 use Rattle.subscriptions.specs.Subscribed.{subscriptions_stand}
+use Rattle.writing.specs.Gives.{was_written, had_no_room}
 use Rattle.answers.specs.Outcome.{build_is, build-same, build-written, build-no_room}
 use Rattle.answers.proofs.built.build_first.Goals as goal
 
 pub first_entries-requires : goal.first_entries-requires
 first_entries-requires c = subscriptions_stand _ _ c.requires c.subscriptions_in-v.ensures
 
-pub returns-then-write_table : goal.returns-then-write_table
-returns-then-write_table c =
-    let b = c.build-made in
-    let first = c.first_entries in
-    build-same _ _ _ (build_is _ _ _ b.result first.ensures.0 b.ensures.0 b.ensures.1) _ _
-    (build-written _ _ _ _ c.write_table.ensures.0 _ c.write_table.ensures.1 c.if-write_table.true _ c.table_length.ensures.0)
-
 pub returns : goal.returns
 returns c =
     let b = c.build-made in
-    let first = c.first_entries in
-    build-same _ _ _ (build_is _ _ _ b.result first.ensures.0 b.ensures.0 b.ensures.1) _ _
-    (build-no_room _ _ _ _ c.write_table.ensures.0 _ c.write_table.ensures.1 c.if-write_table.false)
+    let w = was_written _ _ _ _ c.in_ok-length.ensures in
+    build-same _ _ _ (build_is _ _ _ b.result c.first_entries.ensures.0 b.ensures.0 b.ensures.1) _ _ (build-written _ _ _ _ w.0 _ w.1 refl _ w.2)
+
+pub returns-in_err-length : goal.returns-in_err-length
+returns-in_err-length c =
+    let p = err_from_is_err_and c.from_residual.result c.from_residual.ensures.1 in
+    let b = c.build-made in
+    let w = had_no_room _ _ _ _ c.in_err-length.ensures in
+    rw (p.1, p.2, w.2)
+    (build-same _ _ _ (build_is _ _ _ b.result c.first_entries.ensures.0 b.ensures.0 b.ensures.1) _ _ (build-no_room _ _ _ _ w.0 _ w.1 refl))

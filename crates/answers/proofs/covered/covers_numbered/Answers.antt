@@ -1,29 +1,29 @@
 -- `answers::covered::covers_numbered` meets its contract: both numbers are looked at first.
-use native.Mathlib.Omega.{arith}
+use Rattle.std.proofs.lemmas.Result.{err_from_is_err_and}
 use Rattle.subscriptions.specs.Subscribed.{subscriptions_stand}
-use Rattle.answers.specs.Says.{both_there_lem, first-not_there, second-not_there, covers_there, covers-not_there}
+use Rattle.answers.specs.Says.{both_asked, first_unasked, second_unasked, covers_there, covers-not_there}
 use Rattle.answers.proofs.covered.covers_numbered.Goals as goal
 
-pub returns-then-count-i : goal.returns-then-count-i
-returns-then-count-i c =
-    let stand = subscriptions_stand _ _ c.requires c.subscriptions_in-v.ensures in
-    covers-not_there _ _ _ (first-not_there stand _ _ (omega arith))
+pub asked-requires : goal.asked-requires
+asked-requires c = subscriptions_stand _ _ c.requires c.subscriptions_in-v.ensures
 
-pub returns-then-count-j : goal.returns-then-count-j
-returns-then-count-j c =
-    let stand = subscriptions_stand _ _ c.requires c.subscriptions_in-v.ensures in
-    covers-not_there _ _ _ (second-not_there stand _ _ (omega arith))
+pub returns-in_err-p : goal.returns-in_err-p
+returns-in_err-p c =
+    let p = err_from_is_err_and c.from_residual.result c.from_residual.ensures.1 in
+    let no = c.in_err-p.ensures in
+    rw (p.1, p.2, no.1) (covers-not_there _ _ _ (first_unasked _ _ _ no.0))
 
-pub numbered-p-requires : goal.numbered-p-requires
-numbered-p-requires c =
-    (subscriptions_stand _ _ c.requires c.subscriptions_in-v.ensures, omega arith)
+pub asked-requires-2 : goal.asked-requires-2
+asked-requires-2 c = subscriptions_stand _ _ c.requires c.subscriptions_in-v.ensures
 
-pub numbered-q-requires : goal.numbered-q-requires
-numbered-q-requires c =
-    (subscriptions_stand _ _ c.requires c.subscriptions_in-v.ensures, omega arith)
+pub returns-in_err-q : goal.returns-in_err-q
+returns-in_err-q c =
+    let p = err_from_is_err_and c.from_residual-in_err-q.result c.from_residual-in_err-q.ensures.1 in
+    let no = c.in_err-q.ensures in
+    rw (p.1, p.2, no.1) (covers-not_there _ _ _ (second_unasked _ _ _ no.0))
 
 pub returns : goal.returns
 returns c =
-    let stand = subscriptions_stand _ _ c.requires c.subscriptions_in-v.ensures in
-    covers_there _ _ _ _ _ _ (both_there_lem stand _ _ (omega arith) (omega arith))
-    c.numbered-p.ensures.0 c.numbered-q.ensures.0 c.covers.ensures
+    let p = c.in_ok-p.ensures in
+    let q = c.in_ok-q.ensures in
+    covers_there _ _ _ _ _ _ (both_asked _ _ _ p.0 q.0) p.1 q.1 c.covers.ensures

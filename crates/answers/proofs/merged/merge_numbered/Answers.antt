@@ -1,31 +1,31 @@
 -- `answers::merged::merge_numbered` meets its contract: both numbers are looked at first, and a refusal leaves the output as found.
-use native.Mathlib.Omega.{arith}
+use Rattle.std.proofs.lemmas.Result.{err_from_is_err_and}
 use Rattle.subscriptions.specs.Subscribed.{subscriptions_stand}
-use Rattle.answers.specs.Says.{both_there_lem, first-not_there, second-not_there}
+use Rattle.answers.specs.Says.{both_asked, first_unasked, second_unasked}
 use Rattle.answers.specs.Outcome.{merge_is, merge-not_there, merge-refuses, merge-same}
 use Rattle.answers.proofs.merged.merge_numbered.Goals as goal
 
-pub returns-then-count-i : goal.returns-then-count-i
-returns-then-count-i c =
-    let stand = subscriptions_stand _ _ c.requires c.subscriptions_in-v.ensures in
-    merge-refuses _ _ _ (merge-not_there _ _ _ (first-not_there stand _ _ (omega arith)))
+pub asked-requires : goal.asked-requires
+asked-requires c = subscriptions_stand _ _ c.requires c.subscriptions_in-v.ensures
 
-pub returns-then-count-j : goal.returns-then-count-j
-returns-then-count-j c =
-    let stand = subscriptions_stand _ _ c.requires c.subscriptions_in-v.ensures in
-    merge-refuses _ _ _ (merge-not_there _ _ _ (second-not_there stand _ _ (omega arith)))
+pub returns-in_err-p : goal.returns-in_err-p
+returns-in_err-p c =
+    let p = err_from_is_err_and c.from_residual.result c.from_residual.ensures.1 in
+    let no = c.in_err-p.ensures in
+    rw (p.1, p.2, no.1) (merge-refuses _ _ _ (merge-not_there _ _ _ (first_unasked _ _ _ no.0)))
 
-pub numbered-p-requires : goal.numbered-p-requires
-numbered-p-requires c =
-    (subscriptions_stand _ _ c.requires c.subscriptions_in-v.ensures, omega arith)
+pub asked-requires-2 : goal.asked-requires-2
+asked-requires-2 c = subscriptions_stand _ _ c.requires c.subscriptions_in-v.ensures
 
-pub numbered-q-requires : goal.numbered-q-requires
-numbered-q-requires c =
-    (subscriptions_stand _ _ c.requires c.subscriptions_in-v.ensures, omega arith)
+pub returns-in_err-q : goal.returns-in_err-q
+returns-in_err-q c =
+    let p = err_from_is_err_and c.from_residual-in_err-q.result c.from_residual-in_err-q.ensures.1 in
+    let no = c.in_err-q.ensures in
+    rw (p.1, p.2, no.1) (merge-refuses _ _ _ (merge-not_there _ _ _ (second_unasked _ _ _ no.0)))
 
 pub returns : goal.returns
 returns c =
-    let stand = subscriptions_stand _ _ c.requires c.subscriptions_in-v.ensures in
-    let is = merge_is _ _ _ _ _ _ (both_there_lem stand c.args.i c.args.j (omega arith) (omega arith))
-    c.numbered-p.ensures.0 c.numbered-q.ensures.0 c.merge.ensures in
+    let p = c.in_ok-p.ensures in
+    let q = c.in_ok-q.ensures in
+    let is = merge_is _ _ _ _ _ _ (both_asked _ _ _ p.0 q.0) p.1 q.1 c.merge.ensures in
     merge-same _ _ _ is _ _ c.write_merge.ensures

@@ -1,13 +1,17 @@
 -- `answers::merged::write_merge` meets its contract, where there is room and where there is none.
+use mathlib.Core.Path.{refl}
+use Rattle.std.proofs.lemmas.Result.{err_from_is_err_and}
+use Rattle.writing.specs.Gives.{was_written, had_no_room}
 use Rattle.answers.specs.Outcome.{merge-written, merge-no_room}
 use Rattle.answers.proofs.merged.write_merge.Goals as goal
 
-pub returns-then-write_pattern : goal.returns-then-write_pattern
-returns-then-write_pattern c =
-    let w = c.write_pattern in
-    merge-written _ _ _ _ w.ensures.0 _ w.ensures.1 c.if-write_pattern.true _ c.pattern_length.ensures.0
-
 pub returns : goal.returns
 returns c =
-    let w = c.write_pattern in
-    merge-no_room _ _ _ _ w.ensures.0 _ w.ensures.1 c.if-write_pattern.false
+    let w = was_written _ _ _ _ c.in_ok-length.ensures in
+    merge-written _ _ _ _ w.0 _ w.1 refl _ w.2
+
+pub returns-in_err-length : goal.returns-in_err-length
+returns-in_err-length c =
+    let p = err_from_is_err_and c.from_residual.result c.from_residual.ensures.1 in
+    let w = had_no_room _ _ _ _ c.in_err-length.ensures in
+    rw (p.1, p.2, w.2) (merge-no_room _ _ _ _ w.0 _ w.1 refl)

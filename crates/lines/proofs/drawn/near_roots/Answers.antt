@@ -1,24 +1,12 @@
-use mathlib.Core.Path.{sym, ◌∙◌}
-use native.Mathlib.Omega.{arith}
-use Rattle.shapes.specs.Steps.{step_in}
-use Rattle.lines.specs.NearRoots.{near_roots_from, near-counted, near_not, near-ends}
+-- `lines::drawn::near_roots` meets its contract.
+use Rattle.std.specs.Prelude.{◌≡◌, count_by}
+use Rattle.std.proofs.Common.{rules, ◌∙◌, ap}
+use Rattle.std.proofs.iter.runs.Made.{chains}
+use Rattle.base.specs.Chains.{kept_counted}
+use Rattle.meaning.specs.Sections.{is_near_root}
 use Rattle.lines.proofs.drawn.near_roots.Goals as goal
-use Rattle.lines.proofs.drawn.near_roots.Goals.{then-near_root, else-near_root}
-
-pub loop-k-init : goal.loop-k-init
-loop-k-init c = (omega arith, omega arith)
-
-pub loop-k-preserved : goal.loop-k-preserved
-unfolding step_in
-loop-k-preserved c =
-    let so_far = c.loop-k.invariant.1 in
-    elim c.if-near_root.branch [
-      | then-near_root w ↦
-          rw w.n-is (omega arith, near-counted _ c.requires c.loop-k.k _ _ so_far (omega arith) (sym c.near_root.ensures ∙ w.if-near_root.true))
-      | else-near_root w ↦
-          rw w.n-is (omega arith, near_not _ c.requires c.loop-k.k _ _ so_far (omega arith) (sym c.near_root.ensures ∙ w.if-near_root.false))
-    ]
 
 pub returns : goal.returns
-unfolding near_roots_from
-returns c = near-ends _ c.requires c.loop-k.k _ _ c.loop-k.invariant.1 (omega arith)
+returns c =
+    let counted : c.count.result ≡ count_by is_near_root c.steps.result.now = search (rules, chains) in
+    counted ∙ ap (count_by is_near_root) c.steps.ensures ∙ kept_counted _ _

@@ -1,8 +1,9 @@
 -- `lines::limit::steps_within` meets its contract.
-use mathlib.Core.Path.{sym}
+use mathlib.Core.Path.{refl, sym}
 use native.Mathlib.Omega.{arith}
 use lib.Seq.{length-take-le}
 use Rattle.meaning.specs.Numbers.{longest_line}
+use Rattle.lines.specs.Found.{off_line}
 use Rattle.lines.specs.Limit.{within-limit, longer-sound, longer_off}
 use Rattle.lines.proofs.limit.steps_within.Goals as goal
 
@@ -12,8 +13,9 @@ returns-then-line-le-LONGEST_LINE c = within-limit _ _ _ c.if-line-le-LONGEST_LI
 pub slice_bounds-steps_of-end : goal.slice_bounds-steps_of-end
 slice_bounds-steps_of-end c = sym (length-take-le longest_line c.args.line.now (omega arith))
 
-pub returns-then-f : goal.returns-then-f
-returns-then-f c = longer-sound _ _ (omega arith) _ c.steps_of-f.ensures c.if-f.true _ c.off.ensures
+pub returns-in-Ok : goal.returns-in-Ok
+unfolding off_line
+returns-in-Ok c = longer-sound _ _ (omega arith) _ c.in-Ok.ensures _ refl
 
-pub returns : goal.returns
-returns c = longer_off _ _ (omega arith) _ c.steps_of-f.ensures c.if-f.false
+pub returns-in-Err : goal.returns-in-Err
+returns-in-Err c = longer_off _ _ (omega arith) _ c.in-Err.ensures

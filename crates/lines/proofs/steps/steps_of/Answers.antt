@@ -11,6 +11,7 @@ use Rattle.shapes.specs.Shapes.{no_steps}
 use Rattle.shapes.specs.declared.Pattern.{Pattern}
 use Rattle.turns.specs.declared.course.Course.{Course}
 use Rattle.lines.specs.Kept.{count_most}
+use Rattle.lines.specs.Found.{off_line}
 use Rattle.turns.specs.Courses.{moved_course, opened_course, closed_course, named_course}
 use Rattle.lines.specs.ReadSoFar.{Reached, reached-first, reached-stuck, reached_moves, reached-opens, reached_unopened}
 use Rattle.lines.specs.ReadSoFar.{reached-closes, reached_names, reached-end, reached_off}
@@ -24,12 +25,13 @@ loop-c-init c =
 
 -- no line goes on so
 pub returns-in-Stuck : goal.returns-in-Stuck
+unfolding off_line
 returns-in-Stuck c =
     let l = c.loop-c in
     let line = c.args.line.now in
     let e : turn_at l.c.mode (get_or line l.c.at 0) ≡ turn.Stuck = cc in
     let inside = c.loop-c-test.true in
-    reached_off _ _ _ _ (reached-stuck _ _ l.invariant inside e) c.off.ensures
+    reached_off _ _ _ _ (reached-stuck _ _ l.invariant inside e) refl
 
 -- the byte leads on
 pub loop-c-smaller-in-Moves : goal.loop-c-smaller-in-Moves
@@ -63,12 +65,13 @@ loop-c-preserved-in-Opens c =
 
 -- a bracket closes that isn't open
 pub returns-then-c-eq0 : goal.returns-then-c-eq0
+unfolding off_line
 returns-then-c-eq0 c =
     let l = c.loop-c in
     let line = c.args.line.now in
     let e : turn_at l.c.mode (get_or line l.c.at 0) ≡ turn.Closes = cc in
     let inside = c.loop-c-test.true in
-    reached_off _ _ _ _ (reached_unopened _ _ l.invariant inside e c.if-c-eq0.true) c.off-then-c-eq0.ensures
+    reached_off _ _ _ _ (reached_unopened _ _ l.invariant inside e c.if-c-eq0.true) refl
 
 -- one that is
 pub closed-c-requires : goal.closed-c-requires
