@@ -1,10 +1,8 @@
 -- The branches below a step, as loops go through the numbered steps: how many there are, and their text.
-use Rattle.std.specs.Prelude.{ℕ, suc, ◌+◌, ◌≤◌, ◌<◌, ◌≡◌, refl, Bool, true, false, List, [], ◌∷◌, ◌++◌, cond, eqb, ltb, length, drop, count_by}
+use Rattle.std.specs.Prelude.{ℕ, suc, ◌+◌, ◌≤◌, ◌<◌, ◌≡◌, refl, Bool, true, false, List, [], ◌∷◌, ◌++◌, ltb, length}
 use Rattle.std.proofs.Common.{sym, ◌∙◌, append_assoc, arith, lt-ltb}
 use Rattle.std.proofs.Math.Path.{ap}
-use Rattle.std.proofs.lemmas.List.Sums.{sum_by-cons}
 use Rattle.meaning.specs.Forest.{axis_of, Forest, none, step, children_in, forest, steps_of, steps_from}
-use Rattle.base.specs.Choice.{pick}
 use Rattle.meaning.specs.PatternText.{ascii, axis_text, label_text, several, in_brackets, branches_text, pattern_text}
 use Rattle.meaning.specs.declared.Step.{Step}
 use Rattle.laws.specs.Children.{children_from, children_of}
@@ -29,25 +27,6 @@ several-branches none = refl
 several-branches (step a l kids none) = refl
 several-branches (step a l kids (step b m more later)) = sym (lt-ltb 1 (suc (suc (branches later))) (omega arith))
 
--- as many as the steps that hang on it
-branches_counted : (v k : ℕ) (ss : List Step) → count_by (λ (x : Step). eqb x.parent v) ss ≡ branches (children_in v k ss)
-unfolding branches children_in pick
-branches_counted v k [] = refl
-branches_counted v k (s ∷ ss) =
-    sum_by-cons (λ (x : Step). cond (eqb x.parent v) 1 0) s ss ∙ go (eqb s.parent v) (branches_counted v (suc k) ss)
-  where
-    go : (t : Bool) → count_by (λ (x : Step). eqb x.parent v) ss ≡ branches (children_in v (suc k) ss)
-        → cond t 1 0 + count_by (λ (x : Step). eqb x.parent v) ss
-        ≡ branches (pick t (step (axis_of s.axis) s.label (children_in k (suc k) ss) (children_in v (suc k) ss)) (children_in v (suc k) ss))
-    go true e = omega (arith, e)
-    go false e = omega (arith, e)
-
--- there are several below step v where more than one of the later steps hangs on it
-pub several_counted : (ss : List Step) (v : ℕ) → ltb 1 (count_by (λ (x : Step). eqb x.parent v) (drop v ss)) ≡ several (children_of ss v)
-unfolding children_of children_from
-several_counted ss v = ap (ltb 1) (branches_counted v (suc v) (drop v ss)) ∙ sym (several-branches (children_of ss v))
-
--- the branches counted, one step after the other, and those still to come
 module _ (p : Pattern) (sound : WellFormed p) (v k n : ℕ) (whole : ℕ) where
   pub branch-counted : k < p.count → (step_in p k).parent ≡ v → n + branches (children_from (steps_in p) v k) ≡ whole
       → n + 1 + branches (children_from (steps_in p) v (k + 1)) ≡ whole

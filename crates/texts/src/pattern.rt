@@ -1,5 +1,5 @@
 // A pattern's text: / near, // far, * any; one child follows at once, several stand in brackets; a dot without steps.
-ghost use Rattle.std.specs.Prelude.{◌≡◌, ◌==◌, drop, count_by};
+ghost use Rattle.std.specs.Prelude.{◌≡◌};
 ghost use Rattle.meaning.specs.Forest.{axis_of};
 ghost use Rattle.meaning.specs.PatternText.{axis_text, label_text, several, pattern_text};
 ghost use Rattle.laws.specs.Children.{children_of};
@@ -13,23 +13,18 @@ use labels::label_at;
 use meaning::Step;
 use shapes::Pattern;
 
-// How many of the steps after the first v hang on step v, or on the root, which is 0.
-fn count_below(steps: &[Step], v: usize) -> usize
-    ensures { result ≡ count_by (λ x. x.parent == v) (drop v steps.now) }
-{
-    steps
-        .iter()
-        .skip(v)
-        .filter(|x| usize::from(x.parent) == v)
-        .count()
-}
-
 // Several branches below step v of a pattern, or below its root, which is 0.
 fn several_below(p: &Pattern, v: usize) -> bool
     requires { WellFormed p.now }
     ensures { result ≡ several (children_of (steps_in p.now) v) }
 {
-    count_below(p.steps(), v) > 1
+    let mut n: usize = 0;
+    for k in v..p.count {
+        if usize::from(p.steps[k].parent) == v {
+            n += 1;
+        }
+    }
+    n > 1
 }
 
 impl Text<'_> {

@@ -1,13 +1,12 @@
 -- A name in a line: how long a label is, its number among the labels of a sheet, and what is found where it has been read.
 use Prim.Native.Char.{code}
 use Prim.Native.Nat.{ℕ, suc, ◌+◌, ◌-◌, ◌<◌, ◌≤◌}
-use Rattle.std.specs.Prelude.{◌≡◌, Bool, List, [], ◌∷◌, ◌++◌, cond, eqb, length, get_or, take, drop}
+use Rattle.std.specs.Prelude.{◌≡◌, Bool, List, [], ◌∷◌, ◌++◌, eqb, length, get_or, take, drop}
 use Rattle.std.proofs.Math.Path.{refl, ap}
 use Rattle.std.proofs.Common.{◌∙◌, append_assoc, append-nil, add-one, add-zero, eq-eqb, ne_eqb, drop_of_length-le}
 use Rattle.std.proofs.Math.Bool.{true, false, not}
 use native.Mathlib.Omega.{arith}
 use Rattle.std.proofs.Math.Seq.{drop-cons}
-use Rattle.std.specs.List.{prefix_len}
 use Rattle.base.specs.Choice.{pick, pick_true, pick_false}
 use Rattle.meaning.specs.Forest.{Axis}
 use Rattle.meaning.specs.Notation.{barred, called, Drawn}
@@ -22,16 +21,6 @@ use Rattle.turns.specs.declared.names.Name.{Name}
 unfoldable pub label_long : List ℕ → ℕ
 label_long [] = 0
 label_long (b ∷ bs) = let later = label_long bs in pick (barred b) 0 (suc later)
-
--- as many as stand before the first that isn't one
-pub label_long_lem : (bs : List ℕ) → prefix_len (λ b. not (barred b)) bs ≡ label_long bs
-unfolding label_long pick
-label_long_lem [] = refl
-label_long_lem (b ∷ bs) = go (barred b) (label_long_lem bs)
-  where
-    go : (t : Bool) → prefix_len (λ b. not (barred b)) bs ≡ label_long bs → cond (not t) (1 + prefix_len (λ b. not (barred b)) bs) 0 ≡ pick t 0 (suc (label_long bs))
-    go true e = refl
-    go false e = omega (arith, e)
 
 -- ---- a loop that looks for its end: from here it is as far as from the start
 module _ (line : List ℕ) (i whole : ℕ) (left : i + label_long (drop i line) ≡ whole) where

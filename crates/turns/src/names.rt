@@ -1,7 +1,5 @@
 // A name in a line: where it ends, and its number among the labels of a sheet.
-ghost use Rattle.std.specs.Prelude.{◌≡◌, not, ◌+◌, ◌≤◌, ◌<◌, length, drop};
-ghost use Rattle.meaning.specs.Notation.{barred};
-ghost use Rattle.std.specs.List.{prefix_len};
+ghost use Rattle.std.specs.Prelude.{◌≡◌, ◌+◌, ◌≤◌, ◌<◌, length, drop};
 ghost use Rattle.labels.specs.LabelPlaces.{labels_in};
 ghost use Rattle.turns.specs.Names.{label_long, name_at};
 
@@ -16,20 +14,17 @@ pub struct Name {
     pub known: bool,
 }
 
-// How many bytes of a label stand at the front.
-fn label_long(text: &[u8]) -> usize
-    ensures long { result ≡ prefix_len (λ b. not (barred b)) text.now }
-    ensures within { result ≤ length text.now }
-{
-    text.iter().take_while(|b| !barred(**b)).count()
-}
-
 // Where a label ends whose first byte stands just before this place.
 fn label_end(line: &[u8], from: usize) -> usize
     requires { from ≤ length line.now }
     ensures { (result ≡ from + label_long (drop from line.now)) × (result ≤ length line.now) }
 {
-    from + label_long(&line[from..])
+    for i in from..line.len() {
+        if barred(line[i]) {
+            return i;
+        }
+    }
+    line.len()
 }
 
 // The name that begins here: * or a label.

@@ -1,12 +1,18 @@
--- `turns::names::label_end` meets its contract. The bytes that are counted are those of the line from there on.
-use Rattle.std.proofs.Common.{◌≡◌, ◌-◌, length, take, drop, arith, take_all, length-drop}
-use Rattle.turns.specs.Names.{label_long_lem}
+use Rattle.std.proofs.Common.{sym, ◌∙◌, arith}
+use Rattle.turns.specs.Names.{label-stops, label-goes_on, label-ends}
 use Rattle.turns.proofs.names.label_end.Goals as goal
+
+pub returns-then-barred : goal.returns-then-barred
+returns-then-barred c =
+    let l = c.loop-i in
+    (label-stops _ l.i _ l.invariant c.loop-i-test.true (sym c.barred.ensures ∙ c.if-barred.true), omega arith)
+
+pub loop-i-preserved : goal.loop-i-preserved
+loop-i-preserved c =
+    let l = c.loop-i in
+    label-goes_on _ l.i _ l.invariant c.loop-i-test.true (sym c.barred.ensures ∙ c.if-barred.false)
 
 pub returns : goal.returns
 returns c =
-    let line = c.args.line.now in
-    let rest = drop c.args.from line in
-    let whole : take (length line - c.args.from) rest ≡ rest = take_all (length line - c.args.from) rest (omega (arith, length-drop c.args.from line)) in
-    let long = rw (whole, label_long_lem rest) at c.label_long.ensures.long in
-    (omega (arith, long), omega arith)
+    let l = c.loop-i in
+    (omega (arith, label-ends _ l.i _ l.invariant c.loop-i-test.false), omega arith)
