@@ -11,5 +11,6 @@ pub mod Mapping
 pub mod Numbering
 pub mod Scanning
 pub mod Loops
+pub mod Exits
 pub mod Standing
 pub mod Along

@@ -53,8 +53,7 @@ fn at_end(c: Course, steps: [Step; MOST_STEPS]) -> Result<Found, usize>
 pub fn steps_of(s: &[u8], line: &[u8]) -> Result<Found, usize>
     ensures { FoundIs (labels_in s.now) (read_any line.now) result }
 {
-    let none = no_steps();
-    let mut steps = none.steps;
+    let mut steps = no_steps().steps;
     let mut opens: [u8; MOST_OPEN] = [0; MOST_OPEN];
     let mut c = Course::first();
     while c.at < line.len() {

@@ -54,13 +54,7 @@ fn second_near(s: &[u8], p: usize, k: usize, parent: usize, axis: usize) -> bool
     requires { (p ≤ length s.now) × (k ≤ most_steps) }
     ensures { result ≡ is_second_near s.now p k parent axis }
 {
-    if parent != 0 {
-        return false;
-    }
-    if axis != 0 {
-        return false;
-    }
-    near_at_root(s, p, k)
+    parent == 0 && axis == 0 && near_at_root(s, p, k)
 }
 
 // The last byte of a step, its label.

@@ -3,7 +3,6 @@ use Prim.Native.Nat.{◌<◌, ◌≤◌}
 use Rattle.base.specs.Choice.{picks}
 use Rattle.labels.specs.LabelPlaces.{text_at}
 use Rattle.labels.specs.LabelSection.{label_section}
-use native.Mathlib.Omega.{arith}
 use Rattle.meaning.specs.Numbers.{longest_label}
 use Rattle.labels.proofs.label.Goals as goal
 use Rattle.labels.proofs.label.Goals.{then-long-lt1-via-then-long-lt1, then-long-lt1-via-else-long-lt1+then-long-gt-LONGEST_LABEL}

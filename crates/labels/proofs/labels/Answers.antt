@@ -1,4 +1,4 @@
-use Rattle.std.proofs.lemmas.Result.{err_from_is_err_and}
+use Rattle.base.specs.Exits.{exits}
 use Rattle.places.specs.ReadingLoop.{reads_on, reads-fault, all_read}
 use Rattle.labels.specs.LabelSection.{labels_section}
 use native.Mathlib.Omega.{arith}
@@ -7,8 +7,7 @@ use Rattle.labels.proofs.labels.Goals as goal
 pub returns-in_err-x : goal.returns-in_err-x
 unfolding labels_section
 returns-in_err-x c =
-    let p = err_from_is_err_and c.from_residual.result c.from_residual.ensures.1 in
-    rw (p.1, p.2) (reads-fault c.loop-i.invariant (omega arith) c.label.ensures c.in_err-x.was)
+    rw (exits _ _ c.from_residual.ensures.1) (reads-fault c.loop-i.invariant (omega arith) c.label.ensures c.in_err-x.was)
 
 pub loop-i-preserved : goal.loop-i-preserved
 loop-i-preserved c =

@@ -1,6 +1,5 @@
 -- `labels::labels` meets its contract.
 -- The invariant: i labels are read, and the next one stands at x.
-use Prim.Native.Nat.{◌-◌}
 use Rattle.places.specs.ReadingLoop.{ReadSoFar}
 use Rattle.labels.specs.LabelSection.{label_place}
 use Rattle.labels.proofs.labels.Given as goal

@@ -1,5 +1,5 @@
 -- `lines::read_judged` meets its contract: where the line is off, the output is as found.
-use Rattle.std.proofs.lemmas.Result.{err_from_is_err_and}
+use Rattle.base.specs.Exits.{exits}
 use Rattle.reading.specs.SheetPlaces.{sheet_at}
 use Rattle.lines.specs.Said.{line_off, line_formed, line-written, line-not_written}
 use Rattle.lines.proofs.read_judged.Goals as goal
@@ -15,8 +15,7 @@ returns-in_ok-write_drawn-in-Ok c = line-written _ _ _ _ c.in-Ok.ensures _ _ c.i
 pub returns-in_err-write_drawn-in-Ok : goal.returns-in_err-write_drawn-in-Ok
 unfolding sheet_at
 returns-in_err-write_drawn-in-Ok c =
-    let p = err_from_is_err_and c.from_residual.result c.from_residual.ensures.1 in
-    rw (p.1, p.2) (line-not_written _ _ _ _ c.in-Ok.ensures _ _ c.in_err-write_drawn-in-Ok.ensures)
+    rw (exits _ _ c.from_residual.ensures.1) (line-not_written _ _ _ _ c.in-Ok.ensures _ _ c.in_err-write_drawn-in-Ok.ensures)
 
 pub returns-in-Err : goal.returns-in-Err
 unfolding sheet_at

@@ -1,5 +1,5 @@
 -- `lines::read_line` meets its contract: the sheet is judged first, and a refusal leaves the output as found.
-use Rattle.std.proofs.lemmas.Result.{err_from_is_err_and}
+use Rattle.base.specs.Exits.{exits}
 use mathlib.Core.Path.{sym, ◌∙◌}
 use Rattle.reading.specs.SheetJudged.{sheet-stands}
 use Rattle.lines.specs.Said.{line-said, line_refused}
@@ -15,5 +15,4 @@ returns c =
 
 pub returns-in_err-sheet : goal.returns-in_err-sheet
 returns-in_err-sheet c =
-    let p = err_from_is_err_and c.from_residual.result c.from_residual.ensures.1 in
-    rw (p.1, p.2) (line_refused _ _ _ _ (sym c.sheet.ensures ∙ c.in_err-sheet.was))
+    rw (exits _ _ c.from_residual.ensures.1) (line_refused _ _ _ _ (sym c.sheet.ensures ∙ c.in_err-sheet.was))

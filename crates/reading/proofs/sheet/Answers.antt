@@ -1,5 +1,5 @@
 -- `reading::sheet` meets its contract.
-use Rattle.std.proofs.lemmas.Result.{err_from_is_err_and}
+use Rattle.base.specs.Exits.{exits}
 use Rattle.base.specs.Choice.{pick}
 use Rattle.base.specs.Loops.{and_then}
 use Rattle.std.proofs.Common.{arith, length, lt-ltb, le-ltb}
@@ -26,10 +26,8 @@ returns c =
 pub returns-in_err-y : goal.returns-in_err-y
 unfolding sheet_section patterns_to_end and_then pick
 returns-in_err-y c =
-    let p = err_from_is_err_and c.from_residual-in_err-y.result c.from_residual-in_err-y.ensures.1 in
     rw (
-      p.1,
-      p.2,
+      exits _ _ c.from_residual-in_err-y.ensures.1,
       lt-ltb 0 (length c.args.s.now) (omega arith),
       ← c.byte_at-n.ensures.0,
       ← c.labels.ensures,
@@ -41,10 +39,8 @@ returns-in_err-y c =
 pub returns-in_err-x : goal.returns-in_err-x
 unfolding sheet_section and_then pick
 returns-in_err-x c =
-    let p = err_from_is_err_and c.from_residual.result c.from_residual.ensures.1 in
     rw (
-      p.1,
-      p.2,
+      exits _ _ c.from_residual.ensures.1,
       lt-ltb 0 (length c.args.s.now) (omega arith),
       ← c.byte_at-n.ensures.0,
       ← c.labels.ensures,

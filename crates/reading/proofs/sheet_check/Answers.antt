@@ -1,6 +1,6 @@
 -- `reading::sheet_check` meets its contract.
 use Rattle.std.proofs.Common.{ap, sym, ◌∙◌}
-use Rattle.std.proofs.lemmas.Result.{err_from_is_err_and}
+use Rattle.base.specs.Exits.{exits}
 use Rattle.places.specs.Bytes.{number_at}
 use Rattle.reading.specs.SheetSection.{sheet_number_lem}
 use Rattle.reading.proofs.sheet_check.Goals as goal
@@ -12,5 +12,4 @@ returns c = ap number_at (sym c.in_ok-sheet.was ∙ c.sheet.ensures) ∙ sheet_n
 pub returns-in_err-sheet : goal.returns-in_err-sheet
 unfolding number_at
 returns-in_err-sheet c =
-    let p = err_from_is_err_and c.from_residual.result c.from_residual.ensures.1 in
-    rw (p.1, p.2) (ap number_at (sym c.in_err-sheet.was ∙ c.sheet.ensures) ∙ sheet_number_lem _)
+    rw (exits _ _ c.from_residual.ensures.1) (ap number_at (sym c.in_err-sheet.was ∙ c.sheet.ensures) ∙ sheet_number_lem _)

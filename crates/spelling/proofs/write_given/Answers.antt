@@ -1,5 +1,5 @@
 -- `spelling::write_given` meets its contract: the pattern's bytes are judged first.
-use Rattle.std.proofs.lemmas.Result.{err_from_is_err_and}
+use Rattle.base.specs.Exits.{exits}
 use mathlib.Core.Path.{sym, ◌∙◌}
 use Rattle.meaning.specs.LineCalls.{output_answer}
 use Rattle.writing.specs.Gives.{gives-refusal, gives_same}
@@ -21,5 +21,4 @@ returns c =
 pub returns-in_err-only_pattern : goal.returns-in_err-only_pattern
 unfolding output_answer
 returns-in_err-only_pattern c =
-    let p = err_from_is_err_and c.from_residual.result c.from_residual.ensures.1 in
-    rw (p.1, p.2) (gives-refusal output_answer _ _ _ (bytes-refused _ _ _ c.byte_at.ensures.0 _ (sym c.only_pattern.ensures ∙ c.in_err-only_pattern.was)))
+    rw (exits _ _ c.from_residual.ensures.1) (gives-refusal output_answer _ _ _ (bytes-refused _ _ _ c.byte_at.ensures.0 _ (sym c.only_pattern.ensures ∙ c.in_err-only_pattern.was)))

@@ -1,5 +1,5 @@
 -- `spelling::write_numbered` meets its contract: the number is looked at first.
-use Rattle.std.proofs.lemmas.Result.{err_from_is_err_and}
+use Rattle.base.specs.Exits.{exits}
 use Rattle.meaning.specs.LineCalls.{output_answer}
 use Rattle.subscriptions.specs.Subscribed.{subscriptions_stand}
 use Rattle.writing.specs.Gives.{gives-refusal, gives_same}
@@ -12,9 +12,8 @@ asked-requires c = subscriptions_stand _ _ c.requires c.subscriptions_in-v.ensur
 pub returns-in_err-p : goal.returns-in_err-p
 unfolding output_answer
 returns-in_err-p c =
-    let p = err_from_is_err_and c.from_residual.result c.from_residual.ensures.1 in
     let no = c.in_err-p.ensures in
-    rw (p.1, p.2, no.1) (gives-refusal output_answer _ _ _ (asked-not_there _ _ no.0))
+    rw (exits _ _ c.from_residual.ensures.1, no.1) (gives-refusal output_answer _ _ _ (asked-not_there _ _ no.0))
 
 pub returns : goal.returns
 returns c =

@@ -1,5 +1,5 @@
 -- `spelling::write_pattern` meets its contract: the sheet is judged first, and a refusal leaves the output as found.
-use Rattle.std.proofs.lemmas.Result.{err_from_is_err_and}
+use Rattle.base.specs.Exits.{exits}
 use mathlib.Core.Path.{sym, ◌∙◌}
 use Rattle.meaning.specs.LineCalls.{output_answer}
 use Rattle.reading.specs.SheetJudged.{sheet-stands}
@@ -18,5 +18,4 @@ returns c =
 pub returns-in_err-sheet : goal.returns-in_err-sheet
 unfolding output_answer
 returns-in_err-sheet c =
-    let p = err_from_is_err_and c.from_residual.result c.from_residual.ensures.1 in
-    rw (p.1, p.2) (gives-refusal output_answer _ _ _ (pattern-refused _ _ _ (sym c.sheet.ensures ∙ c.in_err-sheet.was)))
+    rw (exits _ _ c.from_residual.ensures.1) (gives-refusal output_answer _ _ _ (pattern-refused _ _ _ (sym c.sheet.ensures ∙ c.in_err-sheet.was)))

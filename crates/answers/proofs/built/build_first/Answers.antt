@@ -1,6 +1,6 @@
 -- `answers::built::build_first` meets its contract: the build from one entry for each subscription, where there is room and where there is none.
 use mathlib.Core.Path.{refl}
-use Rattle.std.proofs.lemmas.Result.{err_from_is_err_and}
+use Rattle.base.specs.Exits.{exits}
 use Rattle.subscriptions.specs.Subscribed.{subscriptions_stand}
 use Rattle.writing.specs.Gives.{was_written, had_no_room}
 use Rattle.answers.specs.Outcome.{build_is, build-same, build-written, build-no_room}
@@ -17,8 +17,7 @@ returns c =
 
 pub returns-in_err-length : goal.returns-in_err-length
 returns-in_err-length c =
-    let p = err_from_is_err_and c.from_residual.result c.from_residual.ensures.1 in
     let b = c.build-made in
     let w = had_no_room _ _ _ _ c.in_err-length.ensures in
-    rw (p.1, p.2, w.2)
+    rw (exits _ _ c.from_residual.ensures.1, w.2)
     (build-same _ _ _ (build_is _ _ _ b.result c.first_entries.ensures.0 b.ensures.0 b.ensures.1) _ _ (build-no_room _ _ _ _ w.0 _ w.1 refl))

@@ -1,5 +1,4 @@
 -- `answers::built::first_entries` meets its contract: so far there is one entry for each of the first subscriptions.
-use Prim.Native.Nat.{◌-◌}
 use Rattle.reading.specs.SheetPlaces.{sheet_at}
 use Rattle.answers.specs.Growing.{FirstOnes}
 use Rattle.answers.proofs.built.first_entries.Given as goal

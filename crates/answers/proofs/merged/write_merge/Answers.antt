@@ -1,6 +1,6 @@
 -- `answers::merged::write_merge` meets its contract, where there is room and where there is none.
 use mathlib.Core.Path.{refl}
-use Rattle.std.proofs.lemmas.Result.{err_from_is_err_and}
+use Rattle.base.specs.Exits.{exits}
 use Rattle.writing.specs.Gives.{was_written, had_no_room}
 use Rattle.answers.specs.Outcome.{merge-written, merge-no_room}
 use Rattle.answers.proofs.merged.write_merge.Goals as goal
@@ -12,6 +12,5 @@ returns c =
 
 pub returns-in_err-length : goal.returns-in_err-length
 returns-in_err-length c =
-    let p = err_from_is_err_and c.from_residual.result c.from_residual.ensures.1 in
     let w = had_no_room _ _ _ _ c.in_err-length.ensures in
-    rw (p.1, p.2, w.2) (merge-no_room _ _ _ _ w.0 _ w.1 refl)
+    rw (exits _ _ c.from_residual.ensures.1, w.2) (merge-no_room _ _ _ _ w.0 _ w.1 refl)

@@ -20,7 +20,7 @@ use Rattle.lines.proofs.steps.steps_of.Goals as goal
 pub loop-c-init : goal.loop-c-init
 unfolding no_steps
 loop-c-init c =
-    let none = ap (λ (p : Pattern). length p.steps) c.no_steps-none.ensures in
+    let none = ap (λ (p : Pattern). length p.steps) c.no_steps.ensures in
     rw c.first-c.ensures (reached-first _ _ _ _ refl none)
 
 -- no line goes on so

@@ -1,12 +1,11 @@
-use Rattle.std.proofs.lemmas.Result.{err_from_is_err_and}
+use Rattle.base.specs.Exits.{exits}
 use Rattle.places.specs.ReadingLoop.{reads_on, reads-fault, all_read}
 use native.Mathlib.Omega.{arith}
 use Rattle.reading.proofs.patterns.patterns_from.Goals as goal
 
 pub returns-in_err-x : goal.returns-in_err-x
 returns-in_err-x c =
-    let p = err_from_is_err_and c.from_residual.result c.from_residual.ensures.1 in
-    rw (p.1, p.2) (reads-fault c.loop-i.invariant (omega arith) c.pattern.ensures c.in_err-x.was)
+    rw (exits _ _ c.from_residual.ensures.1) (reads-fault c.loop-i.invariant (omega arith) c.pattern.ensures c.in_err-x.was)
 
 pub loop-i-preserved : goal.loop-i-preserved
 loop-i-preserved c =

@@ -1,6 +1,5 @@
 -- `reading::patterns::patterns_from` meets its contract.
 -- The invariant: i patterns are read, and the next one stands at x.
-use Prim.Native.Nat.{◌-◌}
 use Rattle.places.specs.ReadingLoop.{ReadSoFar}
 use Rattle.places.specs.InTurn.{each_place}
 use Rattle.reading.specs.SheetSection.{pattern_section}

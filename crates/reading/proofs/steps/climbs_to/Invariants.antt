@@ -1,6 +1,5 @@
 -- `reading::steps::climbs_to` meets its contract.
 -- The invariant: where the climb stands.
-use Prim.Native.Nat.{◌-◌}
 use Rattle.reading.specs.ClimbingLoop.{Climbing}
 use Rattle.reading.proofs.steps.climbs_to.Given as goal
 

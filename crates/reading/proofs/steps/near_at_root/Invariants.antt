@@ -1,7 +1,7 @@
 -- `reading::steps::near_at_root` meets its contract.
 -- The invariant: what is left from here gives what all gives from the start.
 use mathlib.Core.Path.{◌≡◌}
-use Prim.Native.Nat.{◌+◌, ◌*◌, ◌-◌, ◌≤◌}
+use Prim.Native.Nat.{◌+◌, ◌*◌, ◌-◌}
 use Rattle.base.specs.Standing.{standing}
 use Rattle.meaning.specs.Sections.{is_near_root}
 use Rattle.base.specs.Lists.{some}

@@ -1,17 +1,18 @@
 -- `reading::steps::second_near` meets its contract.
+use Rattle.std.proofs.Common.{inl, inr, rules}
 use borrow.Author.Tests.{eq-eqb, ne_eqb}
 use Rattle.meaning.specs.Sections.{near_root}
 use Rattle.reading.specs.StepSection.{is_second_near}
 use Rattle.reading.proofs.steps.second_near.Goals as goal
 
-pub returns-then-parent-ne0 : goal.returns-then-parent-ne0
+pub returns-then-axis-eq0 : goal.returns-then-axis-eq0
 unfolding is_second_near near_root
-returns-then-parent-ne0 c = rw (ne_eqb _ _ c.if-parent-ne0.true)
+returns-then-axis-eq0 c = let both = c.if-axis-eq0.true in rw (eq-eqb _ _ both.0, eq-eqb _ _ both.1) c.near_at_root.ensures
 
-pub returns-then-axis-ne0 : goal.returns-then-axis-ne0
+pub returns-else-axis-eq0 : goal.returns-else-axis-eq0
 unfolding is_second_near near_root
-returns-then-axis-ne0 c = rw (eq-eqb _ _ c.if-parent-ne0.false, ne_eqb _ _ c.if-axis-ne0.true)
-
-pub returns : goal.returns
-unfolding is_second_near near_root
-returns c = rw (eq-eqb _ _ c.if-parent-ne0.false, eq-eqb _ _ c.if-axis-ne0.false) c.near_at_root.ensures
+returns-else-axis-eq0 c =
+    elim c.if-axis-eq0.either [
+      | inl a ↦ rw (eq-eqb _ _ a.0, ne_eqb _ _ a.1) (search rules)
+      | inr b ↦ rw (ne_eqb _ _ b) (search rules)
+    ]

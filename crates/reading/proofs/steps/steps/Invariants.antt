@@ -1,6 +1,5 @@
 -- `reading::steps::steps` meets its contract.
 -- The invariant: k steps are read, and the next one stands at x.
-use Prim.Native.Nat.{◌-◌}
 use Rattle.places.specs.ReadingLoop.{ReadSoFar}
 use Rattle.reading.specs.StepSection.{step_place}
 use Rattle.reading.proofs.steps.steps.Given as goal
