@@ -1,7 +1,10 @@
 -- The subscriptions of a sheet that was judged, by their places: how many there are, and the pattern of each.
-use Rattle.std.specs.Prelude.{ℕ, ◌≤◌, ◌<◌, ◌≡◌, List, length, get_or}
+use Rattle.std.specs.Prelude.{ℕ, ◌≤◌, ◌<◌, ◌≡◌, List, length, get_or, refl}
+use Rattle.std.specs.Coded.{Coded, code_by, coded_list, coded_ℕ, coded×}
 use Rattle.std.proofs.Common.{arith}
-use Rattle.meaning.specs.Forest.{none}
+use Rattle.laws.specs.Bridge.{forest-steps_of}
+use Rattle.meaning.specs.declared.Step.{Step}
+use Rattle.meaning.specs.Forest.{Forest, none, forest, steps_of}
 use Rattle.shapes.specs.Shapes.{pattern_of, WellFormed}
 use Rattle.shapes.specs.declared.Pattern.{Pattern}
 use Rattle.laws.specs.RoundTrip.{sheet-read}
@@ -33,3 +36,12 @@ subscriptions_stand s v stands e =
 pub pattern-here : (s : List ℕ) (v : Subscriptions) → SubscriptionsStand s v → (i : ℕ) (p : Pattern) → i < v.count
     → p ≡ pattern_at s (get_or v.places i 0) → (pattern_of p ≡ get_or (sheet_at s).patterns i none) × WellFormed p
 pattern-here s v stand i p l h = rw h (stand.taken i l)
+
+-- a step is its three numbers, and a forest its steps: so two proofs that forests are the same don't differ
+step_coded : Coded Step
+step_coded =
+    code_by (ℕ × (ℕ × ℕ)) (coded× coded_ℕ (coded× coded_ℕ coded_ℕ)) (λ t. (t.parent, (t.axis, t.label)))
+    (λ (a, b). record { parent = a; axis = b.0; label = b.1 }) (λ _. refl)
+
+pub forest_coded : Coded Forest
+forest_coded = code_by (List Step) (coded_list step_coded) steps_of forest forest-steps_of
