@@ -28,10 +28,7 @@ pub struct Entries {
 fn enough(t: &[u8], x: usize, n: usize) -> bool
     ensures { result ≡ leb n (length t.now - x) }
 {
-    if t.len() <= x {
-        return n <= 0;
-    }
-    n <= t.len() - x
+    n <= t.len().saturating_sub(x)
 }
 
 // The members of the entry at x: eight bytes, the low one first.
@@ -96,16 +93,9 @@ pub fn sheet_and_table(s: &[u8], t: &[u8]) -> Result<usize, Refusal>
 pub fn entry_at(t: &[u8], x: usize) -> Entry
     ensures { result ≡ entry_taken t.now x }
 {
-    let members = members_at(t, x);
-    if t.len() <= x {
-        return Entry {
-            members,
-            pattern: pattern_at(t, x),
-        };
-    }
     Entry {
-        members,
-        pattern: pattern_at(t, x + 8),
+        members: members_at(t, x),
+        pattern: pattern_at(t, x.saturating_add(8)),
     }
 }
 

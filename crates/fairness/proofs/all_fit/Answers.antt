@@ -7,13 +7,13 @@ loop-j-init c = fitting_starts c.args.table.now.stand
 
 pub returns-then-not-members_fit : goal.returns-then-not-members_fit
 returns-then-not-members_fit c =
-    entry_doesn't_fit c.loop-j.invariant (omega (arith, c.args.table.now.stand.counted)) c.members.ensures c.members_fit.ensures
+    entry_doesn't_fit c.loop-j.invariant (omega arith) c.members.ensures c.members_fit.ensures
     c.if-not-members_fit.true
 
 pub loop-j-preserved : goal.loop-j-preserved
 loop-j-preserved c =
-    entry-fits c.loop-j.invariant (omega (arith, c.args.table.now.stand.counted)) c.members.ensures c.members_fit.ensures
+    entry-fits c.loop-j.invariant (omega arith) c.members.ensures c.members_fit.ensures
     c.if-not-members_fit.false
 
 pub returns : goal.returns
-returns c = fitting-ends c.loop-j.invariant (omega (arith, c.args.table.now.stand.counted))
+returns c = fitting-ends c.loop-j.invariant (omega arith)

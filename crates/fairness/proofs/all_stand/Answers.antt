@@ -9,14 +9,14 @@ loop-i-init c = standing_starts c.args.sheet.now.stand
 pub returns-then-not-stands : goal.returns-then-not-stands
 unfolding subscription
 returns-then-not-stands c =
-    subscription_doesn't c.loop-i.invariant (omega (arith, c.args.sheet.now.stand.counted)) c.pattern.ensures.0 c.stands.ensures
+    subscription_doesn't c.loop-i.invariant (omega arith) c.pattern.ensures.0 c.stands.ensures
     c.if-not-stands.true
 
 pub loop-i-preserved : goal.loop-i-preserved
 unfolding subscription
 loop-i-preserved c =
-    subscription-stands c.loop-i.invariant (omega (arith, c.args.sheet.now.stand.counted)) c.pattern.ensures.0 c.stands.ensures
+    subscription-stands c.loop-i.invariant (omega arith) c.pattern.ensures.0 c.stands.ensures
     c.if-not-stands.false
 
 pub returns : goal.returns
-returns c = standing-ends c.loop-i.invariant (omega (arith, c.args.sheet.now.stand.counted))
+returns c = standing-ends c.loop-i.invariant (omega arith)

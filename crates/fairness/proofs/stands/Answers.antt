@@ -13,18 +13,17 @@ loop-j-init c = weighing_starts c.args.table.now.stand
 pub weigh-held-requires : goal.weigh-held-requires
 unfolding entry_of
 weigh-held-requires c =
-    let stand = c.args.table.now.stand in
-    let here = (stand.taken c.loop-j.j no_entry (omega (arith, stand.counted))).0 in
-    let each = c.requires.0.each c.loop-j.j (omega (arith, stand.counted)) in
+    let here = (c.args.table.now.stand.taken c.loop-j.j no_entry (omega arith)).0 in
+    let each = c.requires.0.each c.loop-j.j (omega arith) in
     (omega arith, each ∙ ap (λ (e : Entry). e.members) here, c.requires.1, c.requires.2)
 
 pub loop-j-preserved : goal.loop-j-preserved
-loop-j-preserved c = weighing_goes_on c.loop-j.invariant (omega (arith, c.args.table.now.stand.counted)) c.weigh-held.ensures
+loop-j-preserved c = weighing_goes_on c.loop-j.invariant (omega arith) c.weigh-held.ensures
 
 pub returns-in-Covered : goal.returns-in-Covered
 unfolding is_covered
 returns-in-Covered c =
-    rw c.in-Covered.is at (weighing_ends c.loop-j.invariant (omega (arith, c.args.table.now.stand.counted)))
+    rw c.in-Covered.is at (weighing_ends c.loop-j.invariant (omega arith))
 
 -- a subscription that is held in another way is not covered
 otherwise : (held : Held) → (held ≡ Covered → ⊥) → false ≡ is_covered held
@@ -35,4 +34,4 @@ otherwise Wrongly n = refl
 
 pub returns-in_default : goal.returns-in_default
 returns-in_default c =
-    otherwise _ c.in_default.not-Covered ∙ weighing_ends c.loop-j.invariant (omega (arith, c.args.table.now.stand.counted))
+    otherwise _ c.in_default.not-Covered ∙ weighing_ends c.loop-j.invariant (omega arith)

@@ -12,12 +12,11 @@ loop-j-init c = no_members _ _ _ c.requires
 pub loop-j-preserved : goal.loop-j-preserved
 unfolding entry_of entry_taken
 loop-j-preserved c =
-    let stand = c.args.table.now.stand in
-    let here = (stand.taken c.loop-j.j no_entry (omega (arith, stand.counted))).0 in
+    let here = (c.args.table.now.stand.taken c.loop-j.j no_entry (omega arith)).0 in
     one_more _ _ c.loop-j.j _ _ (omega arith) c.loop-j.invariant (c.members.ensures ∙ sym (ap (λ (e : Entry). e.members) here))
 
 pub returns : goal.returns
 returns c =
     let l = c.loop-j in
-    let all : l.j ≡ length c.args.table.now.places.now = omega (arith, c.args.table.now.stand.counted) in
+    let all : l.j ≡ length c.args.table.now.places.now = omega arith in
     rw all at l.invariant

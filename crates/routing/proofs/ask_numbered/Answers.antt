@@ -8,10 +8,7 @@ use Rattle.routing.proofs.ask_numbered.Goals as goal
 pub returns-then-i-count : goal.returns-then-i-count
 unfolding subscription
 returns-then-i-count c =
-    let stand = c.args.sheet.now.stand in
-    answer_there _ stand c.args.i (omega (arith, stand.counted)) (c.matches.ensures ∙ ap (satisfies _) c.pattern.ensures.0)
+    answer_there _ c.args.sheet.now.stand c.args.i (omega arith) (c.matches.ensures ∙ ap (satisfies _) c.pattern.ensures.0)
 
 pub returns : goal.returns
-returns c =
-    let stand = c.args.sheet.now.stand in
-    answer-not_there _ stand c.args.i (omega (arith, stand.counted))
+returns c = answer-not_there _ c.args.sheet.now.stand c.args.i (omega arith)

@@ -11,7 +11,7 @@ pub loop-i-preserved : goal.loop-i-preserved
 unfolding subscription
 loop-i-preserved c =
     let said = c.matches.ensures ∙ ap (satisfies _) c.pattern.ensures.0 in
-    delivery_goes_on c.loop-i.invariant (omega (arith, c.args.sheet.now.stand.counted)) said c.mark-set.ensures
+    delivery_goes_on c.loop-i.invariant (omega arith) said c.mark-set.ensures
 
 pub returns : goal.returns
-returns c = delivery_ends c.loop-i.invariant (omega (arith, c.args.sheet.now.stand.counted))
+returns c = delivery_ends c.loop-i.invariant (omega arith)

@@ -8,8 +8,7 @@ loop-j-init c = entries-start
 
 pub loop-j-preserved : goal.loop-j-preserved
 loop-j-preserved c =
-    let all = c.args.sheet.now.stand in
-    entries-go_on c.loop-j.invariant (omega arith) (omega (arith, all.few, all.counted)) c.entry.ensures.0 c.ask_entry-so_far.ensures
+    entries-go_on c.loop-j.invariant (omega arith) (omega arith) c.entry.ensures.0 c.ask_entry-so_far.ensures
 
 pub returns : goal.returns
 returns c = entries-end c.loop-j.invariant (omega arith)

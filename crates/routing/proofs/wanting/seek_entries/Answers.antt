@@ -11,9 +11,8 @@ returns-then-asked c =
 
 pub loop-j-preserved : goal.loop-j-preserved
 loop-j-preserved c =
-    let all = c.args.sheet.now.stand in
-    seeking_entries-goes_on c.loop-j.invariant (omega arith) c.entry.ensures.0 c.seek_entry-asked.ensures
-    (omega (arith, all.few, all.counted)) c.if-asked.false
+    seeking_entries-goes_on c.loop-j.invariant (omega arith) c.entry.ensures.0 c.seek_entry-asked.ensures (omega arith)
+    c.if-asked.false
 
 pub returns : goal.returns
 returns c = all_asked _ _ _ (seeking_entries-ends c.loop-j.invariant (omega arith))
