@@ -8,29 +8,18 @@ use Rattle.base.specs.Along.{every-goes_on, every-stops, every-ends}
 use Rattle.meaning.specs.Building.{no_entry}
 use Rattle.meaning.specs.Forest.{Forest, none}
 use Rattle.meaning.specs.Sections.{Entry}
-use Rattle.shapes.specs.Shapes.{pattern_of, entry_of}
-use Rattle.shapes.specs.declared.Pattern.{Pattern}
-use Rattle.shapes.specs.declared.Entry as shapes
 use Rattle.members.specs.Fitting.{members_fit}
-use Rattle.places.specs.NumberRead.{number_in}
 use Rattle.reading.specs.SheetPlaces.{sheet_at}
 use Rattle.subscriptions.specs.declared.Subscriptions.{Subscriptions}
-use Rattle.subscriptions.specs.Taken.{pattern_at}
-use Rattle.subscriptions.specs.Subscribed.{SubscriptionsStand, pattern-here}
+use Rattle.subscriptions.specs.Subscribed.{SubscriptionsStand}
 use Rattle.tables.specs.declared.Entries.{Entries}
-use Rattle.tables.specs.TableSection.{entry_taken, table_at}
+use Rattle.tables.specs.TableSection.{table_at}
 use Rattle.tables.specs.TableJudged.{EntriesStand}
 use Rattle.meaning.specs.Fair.{entries_of, one_that_covers, each_in_one, is_peopled, is_within, fair}
 
 -- an entry with members, and all within the sheet, of n subscriptions
 unfoldable pub is_fit : ℕ → Entry → Bool
 is_fit n e = members_fit n e.members
-
--- by the members of the entry by value
-fit_here : (n : ℕ) (e : shapes.Entry) (f : Entry) (members : ℕ) (r b : Bool) → entry_of e ≡ f → members ≡ e.members
-    → r ≡ members_fit n members → r ≡ b → is_fit n f ≡ b
-unfolding is_fit entry_of
-fit_here n e f members r b h m k l = rw (← h, ← m) (sym k ∙ l)
 
 -- the entries from j on fit exactly if all do
 pub record FittingEntries (n : ℕ) (t : List ℕ) (v : Entries) (j : ℕ) : Type 0 where
@@ -43,11 +32,11 @@ module _ {n : ℕ} {t : List ℕ} {v : Entries} where
   fitting_starts stand = record { stand = stand; left = refl }
 
   module _ {j : ℕ} (turn : FittingEntries n t v j) where
-    -- the members at the next place are asked
-    module _ (below : j < v.count) {m : ℕ} {r : Bool} (taken : m ≡ number_in t (get_or v.places j 0) 8) (asked : r ≡ members_fit n m) where
+    -- the members of the next one are asked
+    module _ (below : j < v.count) {m : ℕ} {r : Bool} (taken : m ≡ (get_or (table_at t) j no_entry).members) (asked : r ≡ members_fit n m) where
       next_fit : (b : Bool) → r ≡ b → is_fit n (get_or (table_at t) j no_entry) ≡ b
-      unfolding entry_taken
-      next_fit b h = fit_here n _ _ m r b (turn.stand.taken j no_entry below).0 taken asked h
+      unfolding is_fit
+      next_fit b h = rw (← taken) (sym asked ∙ h)
 
       -- they fit
       pub entry-fits : r ≡ true → FittingEntries n t v (j + 1)
@@ -113,20 +102,18 @@ module _ {s : List ℕ} {v : Subscriptions} {es : List Entry} where
   standing_starts stand = record { stand = stand; left = refl }
 
   module _ {i : ℕ} (turn : StandingFrom s v es i) where
-    -- the pattern at the next place is asked
-    module _ (below : i < v.count) {p : Pattern} {r : Bool} (taken : p ≡ pattern_at s (get_or v.places i 0))
-        (asked : r ≡ one_that_covers (pattern_of p) (entries_of i es)) where
+    -- the pattern of the next one is asked
+    module _ (below : i < v.count) {p : Forest} {r : Bool} (here : p ≡ get_or (sheet_at s).patterns i none)
+        (asked : r ≡ one_that_covers p (entries_of i es)) where
       -- it stands
       pub subscription-stands : r ≡ true → StandingFrom s v es (i + 1)
       subscription-stands h =
-          let here = (pattern-here s v turn.stand i p below taken).0 in
           let inside : i < length (sheet_at s).patterns = omega (arith, turn.stand.counted) in
           record { stand = turn.stand; left = each_goes_on (sheet_at s).patterns es i _ turn.left r _ inside h asked here }
 
       -- it doesn't
       pub subscription_doesn't : r ≡ false → false ≡ each_in_one 0 (sheet_at s).patterns es
       subscription_doesn't h =
-          let here = (pattern-here s v turn.stand i p below taken).0 in
           each_stops (sheet_at s).patterns es i _ turn.left r _ (omega (arith, turn.stand.counted)) h asked here
 
     -- none is left

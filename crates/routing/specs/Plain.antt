@@ -12,10 +12,8 @@ use Rattle.meaning.specs.Satisfying.{satisfies}
 use Rattle.meaning.specs.Routing.{delivery_set, plain_route}
 use Rattle.meaning.specs.Calls.{is_subscription, subscription}
 use Rattle.laws.specs.Marks.{marked, delivery_last}
-use Rattle.shapes.specs.Shapes.{pattern_of}
 use Rattle.reading.specs.SheetPlaces.{sheet_at}
 use Rattle.subscriptions.specs.declared.Subscriptions.{Subscriptions}
-use Rattle.subscriptions.specs.Taken.{pattern_at}
 use Rattle.subscriptions.specs.Subscribed.{SubscriptionsStand}
 use Rattle.meaning.specs.declared.Refusal.TheVariants.{NotThere}
 use Rattle.meaning.specs.declared.Refusal.{Refusal}
@@ -57,12 +55,11 @@ module _ {ns : List Node} {s : List ℕ} {v : Subscriptions} where
   delivery_starts stand = record { stand = stand; so_far = none_delivered ns (sheet_at s).patterns }
 
   module _ {i set : ℕ} (turn : Delivering ns s v i set) where
-    -- the pattern at the next place is asked, and its subscription marked
-    pub delivery_goes_on : i < v.count → {said : Bool} {more : ℕ} → said ≡ satisfies ns (pattern_of (pattern_at s (get_or v.places i 0)))
+    -- the next subscription is asked, and marked
+    pub delivery_goes_on : i < v.count → {said : Bool} {more : ℕ} → said ≡ satisfies ns (get_or (sheet_at s).patterns i none)
         → more ≡ marked set i said → Delivering ns s v (i + 1) more
     delivery_goes_on h asked marks =
-        let here = asked ∙ ap (satisfies ns) (turn.stand.taken i h).0 in
-        let next = next-delivered ns (sheet_at s).patterns i set _ (omega (arith, turn.stand.counted)) here turn.so_far in
+        let next = next-delivered ns (sheet_at s).patterns i set _ (omega (arith, turn.stand.counted)) asked turn.so_far in
         record { stand = turn.stand; so_far = marks ∙ next }
 
     -- all are asked
@@ -74,13 +71,13 @@ unfoldable pub numbered_answer : List Node → Sheet → ℕ → Result Bool Ref
 numbered_answer ns sh i = pick (is_subscription sh i) (Ok (satisfies ns (subscription sh i))) (Err NotThere)
 
 module _ (ns : List Node) {s : List ℕ} {v : Subscriptions} (stand : SubscriptionsStand s v) (i : ℕ) where
-  -- there is such a subscription, and the pattern at its place is asked
-  pub answer_there : {said : Bool} → i < v.count → said ≡ satisfies ns (pattern_of (pattern_at s (get_or v.places i 0)))
+  -- there is such a subscription, and it is asked
+  pub answer_there : {said : Bool} → i < v.count → said ≡ satisfies ns (get_or (sheet_at s).patterns i none)
       → Ok said ≡ numbered_answer ns (sheet_at s) i
   unfolding numbered_answer is_subscription subscription
   answer_there h e =
       pick_true _ _ _ (ltb i (length (sheet_at s).patterns)) (lt-ltb i _ (omega (arith, stand.counted)))
-      (ap Ok (e ∙ ap (satisfies ns) (stand.taken i h).0))
+      (ap Ok e)
 
   -- there is none
   pub answer-not_there : v.count ≤ i → Err NotThere ≡ numbered_answer ns (sheet_at s) i

@@ -5,14 +5,10 @@ mod by_table; // by_table.rt: entries tried, and the members of each that matche
 mod wanting; // wanting.rt: the same until a member matches
 
 ghost use Rattle.std.specs.Prelude.{◌≡◌};
-ghost use Rattle.meaning.specs.Satisfying.{satisfies};
 ghost use Rattle.meaning.specs.Routing.{plain_route};
 ghost use Rattle.meaning.specs.Calls.{matches_answer, plain_answer, table_answer, wanted_answer};
 ghost use Rattle.shapes.specs.Nodes.{nodes_in};
-ghost use Rattle.shapes.specs.Shapes.{pattern_of, WellFormed};
 ghost use Rattle.reading.specs.SheetPlaces.{sheet_at};
-ghost use Rattle.subscriptions.specs.Taken.{pattern_at};
-ghost use Rattle.reading.specs.SheetJudged.{SheetStands};
 ghost use Rattle.routing.specs.Plain.{numbered_answer};
 ghost use Rattle.routing.specs.ThreeJudged.{three_place};
 ghost use Rattle.routing.specs.Sought.{sought_answer};
@@ -25,27 +21,17 @@ use matching::{Tried, matches};
 use meaning::{Refusal, Tabled};
 use members::mark;
 use shapes::nodes::Nodes;
-use subscriptions::{pattern_at, subscriptions_in};
+use subscriptions::judged::JudgedSheet;
+use subscriptions::subscriptions_in;
 use tables::entries_in;
 
-// Does the document whose n nodes stand from a place on satisfy the pattern at x of the sheet?
-fn ask(s: &[u8], x: usize, nodes: &Nodes) -> bool
-    requires { WellFormed (pattern_at s.now x) }
-    ensures { result ≡ satisfies (nodes_in nodes.now) (pattern_of (pattern_at s.now x)) }
+// The delivery set of the document of these nodes: each subscription is asked.
+fn deliver(sheet: &JudgedSheet, nodes: &Nodes) -> u64
+    ensures { result ≡ plain_route (nodes_in nodes.now) (sheet_at sheet.now.bytes.now).patterns }
 {
-    matches(nodes, pattern_at(s, x))
-}
-
-// The delivery set of a document whose n nodes stand from a place on: each subscription is asked.
-fn deliver(s: &[u8], nodes: &Nodes) -> u64
-    requires { SheetStands s.now }
-    ensures { result ≡ plain_route (nodes_in nodes.now) (sheet_at s.now).patterns }
-{
-    let subscriptions = subscriptions_in(s);
-    let mut set: u64 = 0;
-    for i in 0..subscriptions.count {
-        let x = subscriptions.places[i];
-        set = mark(set, i, ask(s, x, nodes));
+    let mut set = 0;
+    for i in 0..sheet.count() {
+        set = mark(set, i, matches(nodes, sheet.pattern(i)));
     }
     set
 }
@@ -55,19 +41,16 @@ pub fn plain_route(s: &[u8], d: &[u8]) -> Result<u64, Refusal>
     ensures { result ≡ plain_answer s.now d.now }
 {
     sheet_and_document(s, d)?;
-    Ok(deliver(s, &nodes_of(d)))
+    let subscriptions = subscriptions_in(s);
+    Ok(deliver(&subscriptions.beside(s), &nodes_of(d)))
 }
 
-// Does the subscription with this number match the document whose n nodes stand from a place on?
-fn ask_numbered(s: &[u8], i: u64, nodes: &Nodes) -> Result<bool, Refusal>
-    requires { SheetStands s.now }
-    ensures { result ≡ numbered_answer (nodes_in nodes.now) (sheet_at s.now) i }
+// Does the subscription with this number match the document of these nodes?
+fn ask_numbered(sheet: &JudgedSheet, i: u64, nodes: &Nodes) -> Result<bool, Refusal>
+    ensures { result ≡ numbered_answer (nodes_in nodes.now) (sheet_at sheet.now.bytes.now) i }
 {
-    let subscriptions = subscriptions_in(s);
-    let count = subscriptions.count as u64;
-    if i < count {
-        let x = subscriptions.places[i as usize];
-        return Ok(ask(s, x, nodes));
+    if i < sheet.count() as u64 {
+        return Ok(matches(nodes, sheet.pattern(i as usize)));
     }
     Err(Refusal::NotThere)
 }
@@ -77,7 +60,8 @@ pub fn subscription_matches(s: &[u8], d: &[u8], i: u64) -> Result<bool, Refusal>
     ensures { result ≡ matches_answer s.now d.now i }
 {
     sheet_and_document(s, d)?;
-    ask_numbered(s, i, &nodes_of(d))
+    let subscriptions = subscriptions_in(s);
+    ask_numbered(&subscriptions.beside(s), i, &nodes_of(d))
 }
 
 // The sheet first, then the table (12 last), then the document.
@@ -94,18 +78,8 @@ pub fn table_route(s: &[u8], t: &[u8], d: &[u8]) -> Result<Tabled, Refusal>
 {
     sheet_table_and_document(s, t, d)?;
     let subscriptions = subscriptions_in(s);
-    let count = subscriptions.count;
     let entries = entries_in(t);
-    let entry_count = entries.count;
-    Ok(ask_entries(
-        s,
-        count,
-        &subscriptions.places,
-        t,
-        entry_count,
-        &entries.places,
-        &nodes_of(d),
-    ))
+    Ok(ask_entries(&subscriptions.beside(s), &entries.beside(t), &nodes_of(d)))
 }
 
 // Does at least one shed take the document, and how many patterns were tried until that was known?
@@ -114,18 +88,8 @@ fn seek(s: &[u8], t: &[u8], d: &[u8]) -> Result<Tried, Refusal>
 {
     sheet_table_and_document(s, t, d)?;
     let subscriptions = subscriptions_in(s);
-    let count = subscriptions.count;
     let entries = entries_in(t);
-    let entry_count = entries.count;
-    Ok(seek_entries(
-        s,
-        count,
-        &subscriptions.places,
-        t,
-        entry_count,
-        &entries.places,
-        &nodes_of(d),
-    ))
+    Ok(seek_entries(&subscriptions.beside(s), &entries.beside(t), &nodes_of(d)))
 }
 
 // Does at least one shed take the document?

@@ -1,5 +1,6 @@
 -- A pattern by value out of bytes, and where the subscriptions of a sheet stand: for any bytes and any place.
-use Rattle.std.specs.Prelude.{ℕ, ◌+◌, ◌*◌, ◌-◌, List, ◌++◌, leb, ltb, length, get_or, drop}
+use Rattle.std.specs.Prelude.{ℕ, ◌+◌, ◌*◌, ◌-◌, ◌≡◌, List, ◌++◌, leb, ltb, length, get_or, drop}
+use Rattle.std.proofs.Common.{add-zero}
 use Rattle.base.specs.Choice.{pick}
 use Rattle.base.specs.Standing.{standing}
 use Rattle.shapes.specs.Shapes.{no_steps}
@@ -29,6 +30,15 @@ itself x = x
 -- the places of n patterns from the place p on
 unfoldable pub pattern_places : List ℕ → ℕ → ℕ → List ℕ
 pattern_places s = standing itself (after_pattern s)
+
+-- n places from p on, each with so many bytes before a pattern
+unfoldable pub places_from : List ℕ → ℕ → ℕ → ℕ → List ℕ
+places_from s before = standing itself (λ x. after_pattern s (x + before))
+
+-- nothing before a pattern
+pub places_of_patterns : (s : List ℕ) (p n : ℕ) → places_from s 0 p n ≡ pattern_places s p n
+unfolding places_from pattern_places
+places_of_patterns s p n = simp add-zero
 
 -- how many subscriptions a sheet has; none where the count is outside its limits
 unfoldable pub subscription_count : List ℕ → ℕ

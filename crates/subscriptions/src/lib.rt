@@ -1,13 +1,15 @@
 // Patterns by value out of a sheet or a table, and where the subscriptions of a sheet stand.
 #![tactic(auto)]
 
+pub mod judged; // judged.rt: a sheet that was judged, lent with the places of its subscriptions
+
 ghost use Rattle.std.specs.Prelude.{◌≡◌, ◌+◌, ◌*◌, ◌^◌, ◌≤◌, ◌<◌, true, false, length, MatchResult};
-ghost use Rattle.meaning.specs.Numbers.{most_patterns, most_steps};
+ghost use Rattle.meaning.specs.Numbers.{most_steps};
 ghost use Rattle.meaning.specs.Calls.{is_subscription, subscription};
 ghost use Rattle.meaning.specs.declared.Refusal.TheVariants.{NotThere};
 ghost use Rattle.shapes.specs.Shapes.{pattern_of, WellFormed};
 ghost use Rattle.reading.specs.SheetPlaces.{step_at_place, after_pattern, sheet_at};
-ghost use Rattle.subscriptions.specs.Taken.{steps_filled, pattern_at, pattern_places, subscriptions_of};
+ghost use Rattle.subscriptions.specs.Taken.{steps_filled, pattern_at, places_from, subscriptions_of};
 ghost use Rattle.subscriptions.specs.Subscribed.{SubscriptionsStand};
 
 use labels::after_labels;
@@ -78,16 +80,16 @@ pub fn after_pattern(s: &[u8], x: usize) -> usize
     x + 1 + 3 * byte_at(s, x)
 }
 
-// The places of the patterns from the place p on.
-fn pattern_places(s: &[u8], p: usize) -> [usize; MOST_PATTERNS]
-    requires { p < 65800 }
-    ensures { result ≡ pattern_places s.now p most_patterns }
+// N places from p on: at each stand so many bytes before a pattern, and the next place is behind the pattern.
+pub fn places_from<const N: usize>(s: &[u8], p: usize, before: usize) -> [usize; N]
+    requires { (p < 65800) × (before ≤ 8) × (N ≤ 64) }
+    ensures { result ≡ places_from s.now before p N }
 {
-    let mut places = [0; MOST_PATTERNS];
+    let mut places = [0; N];
     let mut x = p;
-    for i in 0..MOST_PATTERNS {
-        places[i] = x;
-        x = after_pattern(s, x);
+    for place in &mut places {
+        *place = x;
+        x = after_pattern(s, x + before);
     }
     places
 }
@@ -98,7 +100,7 @@ pub fn subscriptions_in(s: &[u8]) -> Subscriptions
 {
     let x = after_labels(s, 1, byte_at(s, 0));
     let count = within(byte_at(s, x), MOST_PATTERNS);
-    let places = pattern_places(s, x + 1);
+    let places = places_from(s, x + 1, 0);
     Subscriptions { count, places }
 }
 

@@ -1,7 +1,9 @@
 -- The entries of a table that was judged beside a sheet, by their places: how many there are, and each by value.
-use Rattle.std.specs.Prelude.{ℕ, ◌+◌, ◌-◌, ◌≤◌, ◌<◌, ◌≡◌, true, List, leb, ltb, length, Ok}
+use Rattle.std.specs.Prelude.{ℕ, ◌+◌, ◌-◌, ◌≤◌, ◌<◌, ◌≡◌, true, List, leb, ltb, length, take, Ok, refl}
+use Rattle.std.specs.Coded.{Coded, code_by, coded_ℕ, coded×}
 use Rattle.std.proofs.Math.Path.{sym}
-use Rattle.std.proofs.Common.{ap, ◌∙◌, arith}
+use Rattle.std.proofs.Common.{ap, ◌∙◌, arith, length-take-le}
+use Rattle.std.proofs.lemmas.List.{get_or-take}
 use borrow.Author.Tests.{leb-true}
 use Rattle.std.proofs.Math.ListN.{get_or}
 use Rattle.base.specs.Choice.{pick}
@@ -15,10 +17,11 @@ use Rattle.shapes.specs.Shapes.{entry_of, WellFormed}
 use Rattle.shapes.specs.declared.Entry as shapes
 use Rattle.places.specs.Answer.{passed, passed_on}
 use Rattle.places.specs.NumberRead.{number_in}
+use Rattle.subscriptions.specs.Subscribed.{forest_coded}
 use Rattle.subscriptions.specs.Taken.{itself}
 use Rattle.subscriptions.specs.TakenRead.{taken-sound}
 use Rattle.tables.specs.declared.Entries.{Entries}
-use Rattle.tables.specs.TableSection.{after_entry, entry_in, entry_taken, table_at, entry_places, table_entries}
+use Rattle.tables.specs.TableSection.{after_entry, entry_in, entry_taken, table_at, entry_places, table_entries, entries_lent}
 use Rattle.tables.specs.TableSection.{entry_section, table_section, table_place}
 use Rattle.places.specs.InTurn.{each_place}
 use Rattle.meaning.specs.declared.Refusal.TheVariants.{CountOutside, EndsEarly}
@@ -81,3 +84,18 @@ pub entry_here : (t : List ℕ) (v : Entries) → EntriesStand t v → (i : ℕ)
     → e ≡ entry_taken t (get_or v.places i 0)
     → (entry_of e ≡ get_or (table_at t) i no_entry) × WellFormed e.pattern
 entry_here t v stand i e l h = rw h (stand.taken i no_entry l)
+
+-- the places that are there stand as all do
+pub places-stand : (t : List ℕ) (v : Entries) → EntriesStand t v → v.count ≤ length v.places
+    → EntriesStand t (entries_lent (length (take v.count v.places)) (take v.count v.places))
+places-stand t v stand room =
+    let all : length (take v.count v.places) ≡ v.count = length-take-le v.count v.places room in
+    record {
+      few = omega (arith, stand.few);
+      counted = rw all stand.counted;
+      taken = λ i d l. let inside : i < v.count = omega (arith, all) in rw get_or-take (stand.taken i d inside);
+    }
+
+-- an entry is its members and a forest: so two proofs that entries are the same don't differ
+pub entry_coded : Coded Entry
+entry_coded = code_by (ℕ × Forest) (coded× coded_ℕ forest_coded) (λ e. (e.members, e.pattern)) (λ (a, b). made a b) (λ _. refl)

@@ -2,19 +2,20 @@
 // what that gives is what a table means. Entries by value from their places.
 #![tactic(auto)]
 
+pub mod judged; // judged.rt: a table that was judged, lent with the places of its entries
+
 ghost use Rattle.std.specs.Prelude.{◌≡◌, ◌+◌, ◌*◌, ◌-◌, ◌<◌, leb, length};
 ghost use Rattle.base.specs.Loops.{run};
 ghost use Rattle.places.specs.NumberRead.{number_in};
-ghost use Rattle.tables.specs.TableSection.{entry_place, entry_section, table_place, sheet_table_place, entry_taken, entry_places, table_entries};
+ghost use Rattle.tables.specs.TableSection.{entry_place, entry_section, table_place, sheet_table_place, entry_taken, table_entries};
 ghost use Rattle.places.specs.InTurn.{each_place};
-ghost use Rattle.meaning.specs.Numbers.{most_entries};
 
 use meaning::{MOST_ENTRIES, Refusal};
 use places::{byte_at, end, pair_at, within};
 use reading::patterns::pattern;
 use reading::sheet;
 use shapes::Entry;
-use subscriptions::{after_pattern, pattern_at};
+use subscriptions::{pattern_at, places_from};
 
 // How many entries a table has, and the place of each; behind those, the places go on in the same way.
 #[derive(Clone, Copy)]
@@ -27,10 +28,7 @@ pub struct Entries {
 fn enough(t: &[u8], x: usize, n: usize) -> bool
     ensures { result ≡ leb n (length t.now - x) }
 {
-    if t.len() <= x {
-        return n <= 0;
-    }
-    n <= t.len() - x
+    n <= t.len().saturating_sub(x)
 }
 
 // The members of the entry at x: eight bytes, the low one first.
@@ -95,30 +93,10 @@ pub fn sheet_and_table(s: &[u8], t: &[u8]) -> Result<usize, Refusal>
 pub fn entry_at(t: &[u8], x: usize) -> Entry
     ensures { result ≡ entry_taken t.now x }
 {
-    let members = members_at(t, x);
-    if t.len() <= x {
-        return Entry {
-            members,
-            pattern: pattern_at(t, x),
-        };
-    }
     Entry {
-        members,
-        pattern: pattern_at(t, x + 8),
+        members: members_at(t, x),
+        pattern: pattern_at(t, x.saturating_add(8)),
     }
-}
-
-// The places of the entries of a table.
-fn entry_places(t: &[u8]) -> [usize; MOST_ENTRIES]
-    ensures { result ≡ entry_places t.now 1 most_entries }
-{
-    let mut places = [0; MOST_ENTRIES];
-    let mut x = 1;
-    for i in 0..MOST_ENTRIES {
-        places[i] = x;
-        x = after_pattern(t, x + 8);
-    }
-    places
 }
 
 // The entries of a table.
@@ -126,6 +104,6 @@ pub fn entries_in(t: &[u8]) -> Entries
     ensures { result ≡ table_entries t.now }
 {
     let count = within(byte_at(t, 0), MOST_ENTRIES);
-    let places = entry_places(t);
+    let places = places_from(t, 1, 8);
     Entries { count, places }
 }

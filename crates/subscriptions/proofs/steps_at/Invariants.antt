@@ -4,7 +4,7 @@ use Rattle.reading.specs.SheetPlaces.{step_at_place, after_step}
 use Rattle.shapes.specs.Shapes.{no_steps}
 use lib.ListN.{length, drop}
 use mathlib.Core.Path.{◌≡◌}
-use Prim.Native.Nat.{◌+◌, ◌*◌, ◌-◌, ◌≤◌}
+use Prim.Native.Nat.{◌+◌, ◌*◌}
 use Rattle.base.specs.Standing.{FilledUpTo}
 use Rattle.meaning.specs.Numbers.{most_steps}
 use Rattle.subscriptions.proofs.steps_at.Given as goal

@@ -1,6 +1,6 @@
 -- `subscriptions::subscriptions_in` meets its contract.
 use Rattle.reading.specs.SheetPlaces.{pattern_count_at}
-use Rattle.subscriptions.specs.Taken.{subscription_count, subscriptions_of}
+use Rattle.subscriptions.specs.Taken.{subscription_count, subscriptions_of, places_of_patterns}
 use Rattle.subscriptions.proofs.subscriptions_in.Goals as goal
 
 pub returns : goal.returns
@@ -11,5 +11,6 @@ returns c =
       ← c.after_labels-x.ensures.0,
       ← c.byte_at-2.ensures.0,
       ← c.within-count.ensures,
-      ← c.pattern_places-places.ensures,
+      c.places_from-places.ensures,
+      places_of_patterns,
     )

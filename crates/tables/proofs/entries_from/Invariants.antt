@@ -1,6 +1,5 @@
 -- `tables::entries_from` meets its contract.
 -- The invariant: i entries are read, and the next one stands at x.
-use Prim.Native.Nat.{◌-◌}
 use Rattle.places.specs.ReadingLoop.{ReadSoFar}
 use Rattle.places.specs.InTurn.{each_place}
 use Rattle.tables.specs.TableSection.{entry_section}

@@ -1,18 +1,7 @@
 -- `routing::by_table::ask_entry` meets its contract: the members follow where the entry matches.
-use native.Mathlib.Omega.{arith}
 use Rattle.shapes.specs.Shapes.{entry_of}
 use Rattle.routing.specs.Tabling.{entry-matches, entry_fails}
 use Rattle.routing.proofs.by_table.ask_entry.Goals as goal
-
-pub try_pattern-asked-requires : goal.try_pattern-asked-requires
-try_pattern-asked-requires c =
-    let pre = c.requires in
-    (pre.1, omega arith)
-
-pub ask_members-requires : goal.ask_members-requires
-ask_members-requires c =
-    let pre = c.requires in
-    (pre.0, omega (arith, c.try_pattern-asked.ensures.1))
 
 pub returns-then-asked : goal.returns-then-asked
 unfolding entry_of

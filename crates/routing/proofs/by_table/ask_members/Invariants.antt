@@ -5,4 +5,4 @@ use Rattle.routing.specs.Tabling.{TryingMembers}
 use Rattle.routing.proofs.by_table.ask_members.Given as goal
 
 abbrev pub invariant-loop-i : goal.invariant-loop-i
-invariant-loop-i l = TryingMembers (nodes_in l.nodes) (sheet_at l.s).patterns l.members l.initial.so_far l.i l.so_far
+invariant-loop-i l = TryingMembers (nodes_in l.nodes) (sheet_at l.sheet.bytes.now).patterns l.members l.initial.so_far l.i l.so_far

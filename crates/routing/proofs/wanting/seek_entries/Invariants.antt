@@ -6,4 +6,4 @@ use Rattle.routing.specs.Wanting.{SeekingEntries}
 use Rattle.routing.proofs.wanting.seek_entries.Given as goal
 
 abbrev pub invariant-loop-j : goal.invariant-loop-j
-invariant-loop-j l = SeekingEntries (nodes_in l.nodes) (sheet_at l.s).patterns (table_at l.t) l.j l.so_far
+invariant-loop-j l = SeekingEntries (nodes_in l.nodes) (sheet_at l.sheet.bytes.now).patterns (table_at l.table.bytes.now) l.j l.so_far

@@ -1,18 +1,7 @@
 -- `routing::wanting::seek_entry` meets its contract: the members follow where the entry matches.
-use native.Mathlib.Omega.{arith}
 use Rattle.shapes.specs.Shapes.{entry_of}
 use Rattle.routing.specs.Wanting.{entry_then, entry_none}
 use Rattle.routing.proofs.wanting.seek_entry.Goals as goal
-
-pub try_pattern-asked-requires : goal.try_pattern-asked-requires
-try_pattern-asked-requires c =
-    let pre = c.requires in
-    (pre.1, omega arith)
-
-pub seek_members-requires : goal.seek_members-requires
-seek_members-requires c =
-    let pre = c.requires in
-    (pre.0, omega (arith, c.try_pattern-asked.ensures.1))
 
 pub returns-then-asked : goal.returns-then-asked
 unfolding entry_of

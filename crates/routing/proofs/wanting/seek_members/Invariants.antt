@@ -5,4 +5,4 @@ use Rattle.routing.specs.Wanting.{SeekingMembers}
 use Rattle.routing.proofs.wanting.seek_members.Given as goal
 
 abbrev pub invariant-loop-i : goal.invariant-loop-i
-invariant-loop-i l = SeekingMembers (nodes_in l.nodes) (sheet_at l.s).patterns l.members l.tried l.i l.so_far
+invariant-loop-i l = SeekingMembers (nodes_in l.nodes) (sheet_at l.sheet.bytes.now).patterns l.members l.tried l.i l.so_far
