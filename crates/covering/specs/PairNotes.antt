@@ -73,6 +73,9 @@ module _ {a b : Pattern} {notes : List (Option Bool)} (h : Noted a b notes) (v w
   known-lies true {known} e = sym (h.lie v w pair.0 pair.1 pair.2 pair.3 known (sym e))
   known-lies false e = cc
 
+  pub known_doesn't : (may : Bool) {n : Option Bool} → n ≡ known_at may v w notes → n ≡ Some false → false ≡ (may && children_lie (steps_in a) v (steps_in b) w)
+  known_doesn't may e q = known-lies may (sym q ∙ e)
+
   -- what was decided, put as a note, keeps the notes right
   note-put : (r : Bool) → r ≡ children_lie (steps_in a) v (steps_in b) w → Noted a b (set notes (cell_of v w) (Some r))
   note-put r e = record {

@@ -1,6 +1,7 @@
 -- A node's turn, as the code makes it: one word from sixteen steps, and the parent's word takes it.
 use Rattle.std.specs.Prelude.{ℕ, ◌+◌, ◌≡◌, Bool, ◌&&◌, List, eqb, length, get_or, set}
 use Rattle.std.specs.Int.Bits.{bit_and, bit_or}
+use Rattle.std.proofs.Common.{◌∙◌, ap}
 use Rattle.std.proofs.Math.ListN.{length-set}
 use Rattle.base.specs.Choice.{pick}
 use Rattle.base.specs.Loops.{fold_n}
@@ -36,3 +37,7 @@ module _ (m : Masks) where
   pub length-turned : (words : List ℕ) (u up label : ℕ) → length (turned words u up label) ≡ length words
   unfolding turned
   length-turned words u up label = length-set words up _
+
+  -- so of what a turn leaves
+  pub length-kept : {words' : List ℕ} {n : ℕ} (words : List ℕ) (u up label : ℕ) → words' ≡ turned words u up label → length words ≡ n → length words' ≡ n
+  length-kept words u up label e l = ap length e ∙ length-turned words u up label ∙ l
