@@ -59,7 +59,7 @@ pub fn pattern_at(s: &[u8], x: usize) -> Pattern
     if s.len() <= x {
         return no_steps();
     }
-    let n = s[x] as usize;
+    let n = usize::from(s[x]);
     if MOST_STEPS < n {
         return no_steps();
     }
@@ -109,8 +109,7 @@ pub fn numbered(s: &[u8], v: Subscriptions, i: usize) -> Pattern
     requires { SubscriptionsStand s.now v × (i < v.count) }
     ensures { (pattern_of result ≡ subscription (sheet_at s.now) i) × WellFormed result }
 {
-    let x = v.places[i];
-    pattern_at(s, x)
+    v.beside(s).pattern(i)
 }
 
 // The pattern of subscription i, where the sheet has one.
