@@ -1,8 +1,7 @@
 // A pattern, and a section of patterns.
 ghost use Rattle.std.specs.Prelude.{◌≡◌};
 ghost use Rattle.base.specs.Loops.{run};
-ghost use Rattle.reading.specs.SheetSection.{pattern_section};
-ghost use Rattle.reading.specs.SheetSection.{pattern_place, patterns_place};
+ghost use Rattle.reading.specs.SheetSection.{pattern_section, pattern_place, patterns_place};
 ghost use Rattle.places.specs.InTurn.{each_place};
 
 use crate::steps::steps;
@@ -28,7 +27,7 @@ fn patterns_from(s: &[u8], known: usize, p: usize, n: usize) -> Result<usize, Re
     ensures { result ≡ run (each_place (pattern_section s.now known)) n 0 p }
 {
     let mut x = p;
-    for i in 0..n {
+    for _ in 0..n {
         x = pattern(s, known, x)?;
     }
     Ok(x)
