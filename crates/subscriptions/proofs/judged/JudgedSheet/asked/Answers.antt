@@ -1,14 +1,10 @@
--- `subscriptions::asked` meets its contract: the number is looked at first.
-use mathlib.Core.Path.{refl}
-use native.Mathlib.Omega.{arith}
+-- `subscriptions::judged::JudgedSheet::asked` meets its contract: the number is looked at first.
+use Rattle.std.proofs.Common.{refl, arith}
 use Rattle.subscriptions.specs.Subscribed.{number_subscribed, number_unsubscribed}
-use Rattle.subscriptions.proofs.asked.Goals as goal
+use Rattle.subscriptions.proofs.judged.JudgedSheet.asked.Goals as goal
 
-pub returns-then-v-i : goal.returns-then-v-i
-returns-then-v-i c = (number_unsubscribed c.requires _ (omega arith), refl)
-
-pub numbered-requires : goal.numbered-requires
-numbered-requires c = (c.requires, omega arith)
+pub returns-then-count-i : goal.returns-then-count-i
+returns-then-count-i c = (number_unsubscribed c.args.self.now.stand c.args.i (omega arith), refl)
 
 pub returns : goal.returns
-returns c = (number_subscribed c.requires c.args.i (omega arith), c.numbered.ensures.0, c.numbered.ensures.1)
+returns c = (number_subscribed c.args.self.now.stand c.args.i (omega arith), c.pattern.ensures.0, c.pattern.ensures.1)
