@@ -5,15 +5,13 @@ ghost use Rattle.meaning.specs.Calls.{with_room, after, build_answer};
 ghost use Rattle.meaning.specs.Building.{entries_from};
 ghost use Rattle.shapes.specs.Shapes.{entry_of, table_of, WellFormed, WellFormedTable};
 ghost use Rattle.reading.specs.SheetPlaces.{sheet_at};
-ghost use Rattle.reading.specs.SheetJudged.{SheetStands};
-ghost use Rattle.subscriptions.specs.Subscribed.{SubscriptionsStand};
 ghost use Rattle.answers.specs.Says.{build_says};
 
 use building::build;
 use meaning::{Built, MOST_ENTRIES, Refusal};
 use members::alone;
 use shapes::{Entry, Table, no_steps};
-use subscriptions::{Subscriptions, numbered, subscriptions_in};
+use subscriptions::judged::JudgedSheet;
 use writing::write_table;
 
 // Puts one entry more behind those of a table.
@@ -26,9 +24,8 @@ fn add_entry(t: &mut Table, e: Entry)
 }
 
 // One entry for each subscription.
-pub fn first_entries(s: &[u8], v: Subscriptions) -> Table
-    requires { SubscriptionsStand s.now v }
-    ensures { (table_of result ≡ entries_from 0 (sheet_at s.now).patterns) × WellFormedTable result }
+pub fn first_entries(sheet: &JudgedSheet) -> Table
+    ensures { (table_of result ≡ entries_from 0 (sheet_at sheet.now.bytes.now).patterns) × WellFormedTable result }
 {
     let empty = Entry {
         members: 0,
@@ -38,10 +35,10 @@ pub fn first_entries(s: &[u8], v: Subscriptions) -> Table
         count: 0,
         entries: [empty; MOST_ENTRIES],
     };
-    for i in 0..v.count {
+    for i in 0..sheet.count() {
         let e = Entry {
             members: alone(i),
-            pattern: numbered(s, v, i),
+            pattern: sheet.pattern(i),
         };
         add_entry(&mut t, e);
     }
@@ -49,13 +46,11 @@ pub fn first_entries(s: &[u8], v: Subscriptions) -> Table
 }
 
 // Writes the table that is built for a limit from a sheet that was judged.
-pub fn build_first(s: &[u8], limit: u16, out: &mut [u8]) -> Result<Built, Refusal>
-    requires { SheetStands s.now }
-    ensures { (result ≡ build_answer (with_room out.old (build_says (sheet_at s.now) limit)))
-        × (out.new ≡ after out.old (with_room out.old (build_says (sheet_at s.now) limit))) }
+pub fn build_first(sheet: &JudgedSheet, limit: u16, out: &mut [u8]) -> Result<Built, Refusal>
+    ensures { (result ≡ build_answer (with_room out.old (build_says (sheet_at sheet.now.bytes.now) limit)))
+        × (out.new ≡ after out.old (with_room out.old (build_says (sheet_at sheet.now.bytes.now) limit))) }
 {
-    let v = subscriptions_in(s);
-    let made = build(limit, first_entries(s, v));
+    let made = build(limit, first_entries(sheet));
     let length = write_table(out, &made.table)?;
     Ok(Built {
         length,

@@ -13,13 +13,15 @@ use crate::covered::covers_numbered;
 use crate::merged::merge_numbered;
 use meaning::{Built, Merged, Refusal};
 use reading::sheet;
+use subscriptions::subscriptions_in;
 
 // Does subscription i cover subscription j?
 pub fn covers(s: &[u8], i: u64, j: u64) -> Result<bool, Refusal>
     ensures { result ≡ covers_answer s.now i j }
 {
     sheet(s)?;
-    covers_numbered(s, i, j)
+    let subscriptions = subscriptions_in(s);
+    covers_numbered(&subscriptions.beside(s), i, j)
 }
 
 // The merge of subscription i with subscription j: a step count and the steps, written from the start of the output.
@@ -28,7 +30,8 @@ pub fn merge(s: &[u8], i: u64, j: u64, out: &mut [u8]) -> Result<Merged, Refusal
         × (out.new ≡ after out.old (with_room out.old (merge_writing s.now i j))) }
 {
     sheet(s)?;
-    merge_numbered(s, i, j, out)
+    let subscriptions = subscriptions_in(s);
+    merge_numbered(&subscriptions.beside(s), i, j, out)
 }
 
 // The table for a limit, written from the start of the output.
@@ -37,5 +40,6 @@ pub fn build(s: &[u8], limit: u16, out: &mut [u8]) -> Result<Built, Refusal>
         × (out.new ≡ after out.old (with_room out.old (build_writing s.now limit))) }
 {
     sheet(s)?;
-    build_first(s, limit, out)
+    let subscriptions = subscriptions_in(s);
+    build_first(&subscriptions.beside(s), limit, out)
 }

@@ -8,7 +8,6 @@ mod drawn; // drawn.rt: the steps, written as a pattern
 ghost use Rattle.std.specs.Prelude.{◌≡◌};
 ghost use Rattle.meaning.specs.LineCalls.{line_answer, line_output};
 ghost use Rattle.reading.specs.SheetPlaces.{sheet_at};
-ghost use Rattle.reading.specs.SheetJudged.{SheetStands};
 ghost use Rattle.lines.specs.Said.{LineGives};
 
 use crate::drawn::write_drawn;
@@ -16,9 +15,8 @@ use crate::limit::steps_within;
 use meaning::{LineRefusal, Refusal};
 use reading::sheet;
 
-// A line read beside a sheet that was judged.
+// A line read with the labels of a sheet.
 fn read_judged(s: &[u8], line: &[u8], out: &mut [u8]) -> Result<usize, LineRefusal>
-    requires { SheetStands s.now }
     ensures { LineGives (sheet_at s.now).labels line.now out.old result out.new }
 {
     match steps_within(s, line) {

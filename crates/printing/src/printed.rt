@@ -3,7 +3,6 @@ ghost use Rattle.std.specs.Prelude.{◌≡◌};
 ghost use Rattle.meaning.specs.Building.{build};
 ghost use Rattle.meaning.specs.Printing.{table_text, printed};
 ghost use Rattle.reading.specs.SheetPlaces.{sheet_at};
-ghost use Rattle.reading.specs.SheetJudged.{SheetStands};
 ghost use Rattle.texts.specs.PutText.{written, put};
 
 use crate::put_table;
@@ -12,19 +11,18 @@ use building::build;
 use meaning::Refusal;
 use places::pair_at;
 use reading::sheet;
+use subscriptions::judged::JudgedSheet;
 use subscriptions::subscriptions_in;
 use texts::put_refused;
 
 // The table that is built for a limit from a sheet that was judged, as text.
-fn put_built(s: &[u8], limit: u16, out: &mut [u8]) -> usize
-    requires { SheetStands s.now }
+fn put_built(sheet: &JudgedSheet, limit: u16, out: &mut [u8]) -> usize
     ensures { written out.new result
-        ≡ put (written out.old 0) (table_text (sheet_at s.now) (build limit (sheet_at s.now).patterns)) }
+        ≡ put (written out.old 0) (table_text (sheet_at sheet.now.bytes.now) (build limit (sheet_at sheet.now.bytes.now).patterns)) }
 {
-    let v = subscriptions_in(s);
-    let made = build(limit, first_entries(s, v));
+    let made = build(limit, first_entries(sheet));
     let t = made.table;
-    put_table(out, s, t, v.count, made.rounds)
+    put_table(out, sheet.bytes, t, sheet.count(), made.rounds)
 }
 
 // Puts the text at the start of the output, as far as there is room, and answers how long it is.
@@ -37,7 +35,10 @@ pub fn put_text(input: &[u8], out: &mut [u8]) -> usize
     let limit = pair_at(input, 0);
     let s = &input[2..];
     match sheet(s) {
-        Ok(_) => put_built(s, limit as u16, out),
+        Ok(_) => {
+            let subscriptions = subscriptions_in(s);
+            put_built(&subscriptions.beside(s), limit as u16, out)
+        }
         Err(why) => put_refused(out, why.number() as usize),
     }
 }

@@ -49,10 +49,8 @@ pub fn plain_route(s: &[u8], d: &[u8]) -> Result<u64, Refusal>
 fn ask_numbered(sheet: &JudgedSheet, i: u64, nodes: &Nodes) -> Result<bool, Refusal>
     ensures { result ≡ numbered_answer (nodes_in nodes.now) (sheet_at sheet.now.bytes.now) i }
 {
-    if i < sheet.count() as u64 {
-        return Ok(matches(nodes, sheet.pattern(i as usize)));
-    }
-    Err(Refusal::NotThere)
+    let p = sheet.asked(i)?;
+    Ok(matches(nodes, p))
 }
 
 // Does the document satisfy the subscription with this number?

@@ -3,17 +3,13 @@
 
 pub mod judged; // judged.rt: a sheet that was judged, lent with the places of its subscriptions
 
-ghost use Rattle.std.specs.Prelude.{◌≡◌, ◌+◌, ◌*◌, ◌^◌, ◌≤◌, ◌<◌, true, false, length, MatchResult};
+ghost use Rattle.std.specs.Prelude.{◌≡◌, ◌+◌, ◌*◌, ◌^◌, ◌≤◌, ◌<◌, length};
 ghost use Rattle.meaning.specs.Numbers.{most_steps};
-ghost use Rattle.meaning.specs.Calls.{is_subscription, subscription};
-ghost use Rattle.meaning.specs.declared.Refusal.TheVariants.{NotThere};
-ghost use Rattle.shapes.specs.Shapes.{pattern_of, WellFormed};
 ghost use Rattle.reading.specs.SheetPlaces.{step_at_place, after_pattern, sheet_at};
 ghost use Rattle.subscriptions.specs.Taken.{steps_filled, pattern_at, places_from, subscriptions_of};
-ghost use Rattle.subscriptions.specs.Subscribed.{SubscriptionsStand};
 
 use labels::after_labels;
-use meaning::{MOST_PATTERNS, MOST_STEPS, Refusal, Step};
+use meaning::{MOST_PATTERNS, MOST_STEPS, Step};
 use places::{byte_at, within};
 use shapes::{Pattern, no_steps};
 
@@ -102,25 +98,4 @@ pub fn subscriptions_in(s: &[u8]) -> Subscriptions
     let count = within(byte_at(s, x), MOST_PATTERNS);
     let places = places_from(s, x + 1, 0);
     Subscriptions { count, places }
-}
-
-// The pattern of subscription i.
-pub fn numbered(s: &[u8], v: Subscriptions, i: usize) -> Pattern
-    requires { SubscriptionsStand s.now v × (i < v.count) }
-    ensures { (pattern_of result ≡ subscription (sheet_at s.now) i) × WellFormed result }
-{
-    v.beside(s).pattern(i)
-}
-
-// The pattern of subscription i, where the sheet has one.
-pub fn asked(s: &[u8], v: &Subscriptions, i: u64) -> Result<Pattern, Refusal>
-    requires { SubscriptionsStand s.now v.now }
-    ensures { MatchResult result
-        (λ p. (is_subscription (sheet_at s.now) i ≡ true) × (pattern_of p ≡ subscription (sheet_at s.now) i) × WellFormed p)
-        (λ why. (is_subscription (sheet_at s.now) i ≡ false) × (why ≡ NotThere)) }
-{
-    if v.count as u64 <= i {
-        return Err(Refusal::NotThere);
-    }
-    Ok(numbered(s, *v, i as usize))
 }

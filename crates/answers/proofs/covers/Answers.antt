@@ -2,15 +2,17 @@
 use Rattle.base.specs.Exits.{exits}
 use mathlib.Core.Path.{sym, ◌∙◌}
 use Rattle.reading.specs.SheetJudged.{sheet-stands}
+use Rattle.subscriptions.specs.Subscribed.{subscriptions_stand}
 use Rattle.answers.specs.Says.{covers-said, covers-refused}
 use Rattle.answers.proofs.covers.Goals as goal
 
-pub covers_numbered-requires : goal.covers_numbered-requires
-covers_numbered-requires c = sheet-stands _ _ (sym c.sheet.ensures ∙ c.in_ok-sheet.was)
+pub beside-requires : goal.beside-requires
+beside-requires c =
+    subscriptions_stand _ _ (sheet-stands _ _ (sym c.sheet.ensures ∙ c.in_ok-sheet.was)) c.subscriptions_in-subscriptions.ensures
 
 pub returns : goal.returns
 returns c =
-    c.covers_numbered.ensures ∙ covers-said _ _ _ _ (sym c.sheet.ensures ∙ c.in_ok-sheet.was)
+    (rw c.beside.ensures at c.covers_numbered.ensures) ∙ covers-said _ _ _ _ (sym c.sheet.ensures ∙ c.in_ok-sheet.was)
 
 pub returns-in_err-sheet : goal.returns-in_err-sheet
 returns-in_err-sheet c =

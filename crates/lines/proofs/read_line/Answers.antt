@@ -1,13 +1,8 @@
 -- `lines::read_line` meets its contract: the sheet is judged first, and a refusal leaves the output as found.
 use Rattle.base.specs.Exits.{exits}
 use mathlib.Core.Path.{sym, ◌∙◌}
-use Rattle.reading.specs.SheetJudged.{sheet-stands}
 use Rattle.lines.specs.Said.{line-said, line_refused}
 use Rattle.lines.proofs.read_line.Goals as goal
-
-pub read_judged-requires : goal.read_judged-requires
-read_judged-requires c =
-    sheet-stands _ _ (sym c.sheet.ensures ∙ c.in_ok-sheet.was)
 
 pub returns : goal.returns
 returns c =

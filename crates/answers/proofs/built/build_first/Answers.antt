@@ -1,13 +1,9 @@
 -- `answers::built::build_first` meets its contract: the build from one entry for each subscription, where there is room and where there is none.
 use mathlib.Core.Path.{refl}
 use Rattle.base.specs.Exits.{exits}
-use Rattle.subscriptions.specs.Subscribed.{subscriptions_stand}
 use Rattle.writing.specs.Gives.{was_written, had_no_room}
 use Rattle.answers.specs.Outcome.{build_is, build-same, build-written, build-no_room}
 use Rattle.answers.proofs.built.build_first.Goals as goal
-
-pub first_entries-requires : goal.first_entries-requires
-first_entries-requires c = subscriptions_stand _ _ c.requires c.subscriptions_in-v.ensures
 
 pub returns : goal.returns
 returns c =

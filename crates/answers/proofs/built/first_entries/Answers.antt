@@ -8,24 +8,17 @@ use Rattle.answers.proofs.built.first_entries.Goals as goal
 pub loop-i-init : goal.loop-i-init
 loop-i-init c = first_none _ _ refl (search rules)
 
-pub numbered-requires : goal.numbered-requires
-numbered-requires c =
-    (c.requires, omega arith)
-
-pub alone-requires : goal.alone-requires
-alone-requires c = omega (arith, c.requires.few)
-
 pub add_entry-requires : goal.add_entry-requires
 add_entry-requires c =
-    (c.loop-i.invariant.sound, omega (arith, c.requires.few, c.loop-i.invariant.counted), c.numbered.ensures.1)
+    (c.loop-i.invariant.sound, omega (arith, c.loop-i.invariant.counted), c.pattern.ensures.1)
 
 pub loop-i-preserved : goal.loop-i-preserved
 unfolding subscription
 loop-i-preserved c =
     let w = c.add_entry in
-    first_more _ c.loop-i.i c.loop-i.t w.new.t _ (omega (arith, c.requires.counted)) c.loop-i.invariant
-    w.ensures.0 w.ensures.1 w.ensures.2 c.alone.ensures c.numbered.ensures.0
+    first_more _ c.loop-i.i c.loop-i.t w.new.t _ (omega arith) c.loop-i.invariant
+    w.ensures.0 w.ensures.1 w.ensures.2 c.alone.ensures c.pattern.ensures.0
 
 pub returns : goal.returns
 returns c =
-    (first_all _ c.loop-i.i _ (omega (arith, c.requires.counted)) c.loop-i.invariant, c.loop-i.invariant.sound)
+    (first_all _ c.loop-i.i _ (omega arith) c.loop-i.invariant, c.loop-i.invariant.sound)

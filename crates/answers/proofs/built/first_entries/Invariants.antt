@@ -4,4 +4,4 @@ use Rattle.answers.specs.Growing.{FirstOnes}
 use Rattle.answers.proofs.built.first_entries.Given as goal
 
 abbrev pub invariant-loop-i : goal.invariant-loop-i
-invariant-loop-i l = FirstOnes (sheet_at l.s).patterns l.i l.t
+invariant-loop-i l = FirstOnes (sheet_at l.sheet.bytes.now).patterns l.i l.t

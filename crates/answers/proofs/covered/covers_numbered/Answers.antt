@@ -1,19 +1,12 @@
 -- `answers::covered::covers_numbered` meets its contract: both numbers are looked at first.
 use Rattle.base.specs.Exits.{exits}
-use Rattle.subscriptions.specs.Subscribed.{subscriptions_stand}
 use Rattle.answers.specs.Says.{both_asked, first_unasked, second_unasked, covers_there, covers-not_there}
 use Rattle.answers.proofs.covered.covers_numbered.Goals as goal
-
-pub asked-requires : goal.asked-requires
-asked-requires c = subscriptions_stand _ _ c.requires c.subscriptions_in-v.ensures
 
 pub returns-in_err-p : goal.returns-in_err-p
 returns-in_err-p c =
     let no = c.in_err-p.ensures in
     rw (exits _ _ c.from_residual.ensures.1, no.1) (covers-not_there _ _ _ (first_unasked _ _ _ no.0))
-
-pub asked-requires-2 : goal.asked-requires-2
-asked-requires-2 c = subscriptions_stand _ _ c.requires c.subscriptions_in-v.ensures
 
 pub returns-in_err-q : goal.returns-in_err-q
 returns-in_err-q c =

@@ -1,20 +1,13 @@
 -- `answers::merged::merge_numbered` meets its contract: both numbers are looked at first, and a refusal leaves the output as found.
 use Rattle.base.specs.Exits.{exits}
-use Rattle.subscriptions.specs.Subscribed.{subscriptions_stand}
 use Rattle.answers.specs.Says.{both_asked, first_unasked, second_unasked}
 use Rattle.answers.specs.Outcome.{merge_is, merge-not_there, merge-refuses, merge-same}
 use Rattle.answers.proofs.merged.merge_numbered.Goals as goal
-
-pub asked-requires : goal.asked-requires
-asked-requires c = subscriptions_stand _ _ c.requires c.subscriptions_in-v.ensures
 
 pub returns-in_err-p : goal.returns-in_err-p
 returns-in_err-p c =
     let no = c.in_err-p.ensures in
     rw (exits _ _ c.from_residual.ensures.1, no.1) (merge-refuses _ _ _ (merge-not_there _ _ _ (first_unasked _ _ _ no.0)))
-
-pub asked-requires-2 : goal.asked-requires-2
-asked-requires-2 c = subscriptions_stand _ _ c.requires c.subscriptions_in-v.ensures
 
 pub returns-in_err-q : goal.returns-in_err-q
 returns-in_err-q c =
