@@ -4,31 +4,29 @@ ghost use Rattle.io.specs.Counts.{IsPrefixLen};
 
 use crate::STDIN_FILENO;
 
-// The letter that a question begins with, or that there is none.
-pub fn letter() -> Option<u8> {
-    let mut one = [0u8; 1];
-    if io::read_full(STDIN_FILENO, &mut one) < 1 {
+// N bytes.
+fn exactly<const N: usize>() -> Option<[u8; N]> {
+    let mut b = [0u8; N];
+    if io::read_full(STDIN_FILENO, &mut b) < N {
         return None;
     }
+    Some(b)
+}
+
+// The letter that a question begins with, or that there is none.
+pub fn letter() -> Option<u8> {
+    let one: [u8; 1] = exactly()?;
     Some(one[0])
 }
 
 // Two bytes, the low byte first.
 pub fn limit() -> Option<u16> {
-    let mut b = [0u8; 2];
-    if io::read_full(STDIN_FILENO, &mut b) < 2 {
-        return None;
-    }
-    Some(u16::from_le_bytes(b))
+    Some(u16::from_le_bytes(exactly()?))
 }
 
 // Eight bytes, the low byte first.
 pub fn number() -> Option<u64> {
-    let mut b = [0u8; 8];
-    if io::read_full(STDIN_FILENO, &mut b) < 8 {
-        return None;
-    }
-    Some(u64::from_le_bytes(b))
+    Some(u64::from_le_bytes(exactly()?))
 }
 
 // How many of the buffer's bytes: a number of two bytes.
