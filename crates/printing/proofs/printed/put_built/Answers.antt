@@ -11,7 +11,7 @@ first_entries-requires c = subscriptions_stand _ _ c.requires c.subscriptions_in
 pub put_table-requires : goal.put_table-requires
 put_table-requires c =
     let stand = subscriptions_stand _ _ c.requires c.subscriptions_in-v.ensures in
-    (c.build-made.ensures.3, stand.few)
+    stand.few
 
 pub returns : goal.returns
 returns c =
@@ -19,4 +19,4 @@ returns c =
     let first = c.first_entries in
     let stand = subscriptions_stand _ _ c.requires c.subscriptions_in-v.ensures in
     c.put_table.ensures
-    ∙ ap (put _) (text-built _ _ _ _ _ _ stand.counted first.ensures.0 b.ensures.0 b.ensures.1)
+    ∙ ap (put _) (text-built _ _ _ _ _ _ stand.counted first.ensures b.ensures.0 b.ensures.1)
