@@ -9,7 +9,8 @@ use Rattle.std.proofs.Math.Seq.{take-suc-set, length-take-le}
 use Rattle.meaning.specs.Forest.{Forest, none}
 use Rattle.meaning.specs.Sections
 use Rattle.meaning.specs.Building.{entries_from}
-use Rattle.shapes.specs.Shapes.{pattern_of, WellFormed, entry_of, entries_in, table_of, WellFormedTable}
+use Rattle.shapes.specs.Patterns.{WellFormedAll}
+use Rattle.shapes.specs.Shapes.{pattern_of, WellFormed, entry_of, entries_in, table_of, WellFormedTable, well_formed_table}
 use Rattle.shapes.specs.declared.Entry.{Entry}
 use Rattle.shapes.specs.declared.Table.{Table}
 use Rattle.meaning.specs.Numbers.{most_entries}
@@ -22,28 +23,35 @@ last-gives (z ∷ zs) x (Memᴰ.head e) = inr (Memᴰ.head e)
 last-gives (z ∷ zs) x (Memᴰ.tail m) = ⊎_elim inl (λ k. inr (Memᴰ.tail k)) (last-gives zs x m)
 
 module _ (t : Table) (sound : WellFormedTable t) (e : Entry) (room : t.count < most_entries) where
-  -- the table with it
-  abbrev pub grown : Table
-  grown = record { count = t.count + 1; entries = set t.entries t.count e }
-
-  -- its entries
-  grown-entries : entries_in grown ≡ entries_in t ++ (e ∷ [])
-  unfolding entries_in
+  -- the entries with it
+  grown-entries : take (t.count + 1) (set t.entries t.count e) ≡ take t.count t.entries ++ (e ∷ [])
   grown-entries =
       ap (λ (n : ℕ). take n (set t.entries t.count e)) (add-one t.count)
       ∙ take-suc-set t.entries t.count e (omega (arith, sound.full))
 
-  -- what its entries stand for
-  pub grown-table : table_of grown ≡ table_of t ++ (entry_of e ∷ [])
-  unfolding table_of
-  grown-table = ap (map entry_of) grown-entries ∙ map-append entry_of (entries_in t) (e ∷ [])
+  -- what the entries of the table with it stand for
+  pub grown-table : (u : Table) → u.count ≡ t.count + 1 → u.entries ≡ set t.entries t.count e → table_of u ≡ table_of t ++ (entry_of e ∷ [])
+  unfolding table_of entries_in
+  grown-table u c es = rw (c, es) (ap (map entry_of) grown-entries ∙ map-append entry_of (entries_in t) (e ∷ []))
 
-  -- they are well formed
-  pub grown-sound : WellFormed e.pattern → WellFormedTable grown
-  grown-sound sp = record { few = omega arith; full = length-set t.entries t.count e ∙ sound.full; patterns = patterns }
-    where
-      patterns : (f : Entry) → Memᴰ f (entries_in grown) → WellFormed f.pattern
-      patterns f m = ⊎_elim (λ q. rw q sp) (λ k. sound.patterns f k) (last-gives (entries_in t) e (rw grown-entries at m))
+  module _ (sp : WellFormed e.pattern) where
+    -- they are well formed where its pattern is
+    pub grown_patterns : WellFormedAll (take (t.count + 1) (set t.entries t.count e))
+    grown_patterns f m = ⊎_elim (λ q. rw q sp) (λ k. t.patterns f k) (last-gives (take t.count t.entries) e (rw grown-entries at m))
+
+    -- that table
+    abbrev pub grown : Table
+    grown = record {
+      count = t.count + 1;
+      entries = set t.entries t.count e;
+      few = omega (arith, room);
+      full = length-set t.entries t.count e ∙ t.full;
+      patterns = grown_patterns;
+    }
+
+    -- is well formed
+    pub grown-sound : WellFormedTable grown
+    grown-sound = well_formed_table grown
 
 -- one subscription more has one entry more
 entries-last : (k : ℕ) (ps : List Forest) (p : Forest)

@@ -3,7 +3,7 @@ ghost use Rattle.std.specs.Prelude.{◌≡◌, ◌+◌, ◌<◌, [], ◌∷◌, 
 ghost use Rattle.meaning.specs.Numbers.{most_entries};
 ghost use Rattle.meaning.specs.Calls.{with_room, after, build_answer};
 ghost use Rattle.meaning.specs.Building.{entries_from};
-ghost use Rattle.shapes.specs.Shapes.{entry_of, table_of, WellFormed, WellFormedTable};
+ghost use Rattle.shapes.specs.Shapes.{entry_of, table_of, WellFormed};
 ghost use Rattle.reading.specs.SheetPlaces.{sheet_at};
 ghost use Rattle.answers.specs.Says.{build_says};
 
@@ -16,8 +16,8 @@ use writing::write_table;
 
 // Puts one entry more behind those of a table.
 fn add_entry(t: &mut Table, e: Entry)
-    requires { WellFormedTable t.old × (t.old.count < most_entries) × WellFormed e.pattern }
-    ensures { (table_of t.new ≡ table_of t.old ++ (entry_of e ∷ [])) × (t.new.count ≡ t.old.count + 1) × WellFormedTable t.new }
+    requires { (t.old.count < most_entries) × WellFormed e.pattern }
+    ensures { (table_of t.new ≡ table_of t.old ++ (entry_of e ∷ [])) × (t.new.count ≡ t.old.count + 1) }
 {
     t.entries[t.count] = e;
     t.count += 1;
@@ -25,7 +25,7 @@ fn add_entry(t: &mut Table, e: Entry)
 
 // One entry for each subscription.
 pub fn first_entries(sheet: &JudgedSheet) -> Table
-    ensures { (table_of result ≡ entries_from 0 (sheet_at sheet.now.bytes.now).patterns) × WellFormedTable result }
+    ensures { table_of result ≡ entries_from 0 (sheet_at sheet.now.bytes.now).patterns }
 {
     let empty = Entry {
         members: 0,

@@ -1,5 +1,5 @@
 -- The entry with most steps, found entry by entry; and it loses its last step.
-use Rattle.std.specs.Prelude.{ℕ, ◌+◌, ◌-◌, ◌≤◌, ◌<◌, ◌≡◌, refl, ltb, get_or}
+use Rattle.std.specs.Prelude.{ℕ, ◌+◌, ◌-◌, ◌≤◌, ◌<◌, ◌≡◌, refl, ltb, get_or, set}
 use Rattle.std.proofs.Common.{◌∙◌, ap, arith}
 use borrow.Author.Tests.{lt-ltb, le-ltb}
 use Rattle.base.specs.Choice.{pick}
@@ -64,14 +64,14 @@ unfolding table_of entries_in cut_largest
 cut_empty t e = rw e refl
 
 module _ (t : Table) (i : ℕ) (p : Pattern) (s : WellFormedTable t) (h : i < t.count) (e : i ≡ largest (table_of t) (numbers_from 0 t.count) 0) where
-  -- the entry with most steps without its last step is what the definition cuts
+  -- the table in which the entry with most steps stands without its last step is what the definition cuts
   pub cut_there : pattern_of p ≡ cut (pattern_of (get_or t.entries i no_entry_value).pattern)
-      → table_of (table_with t s i (changed (get_or t.entries i no_entry_value) p) h) ≡ cut_largest (table_of t)
+      → (u : Table) → u.count ≡ t.count → u.entries ≡ set t.entries i (changed (get_or t.entries i no_entry_value) p) → table_of u ≡ cut_largest (table_of t)
   unfolding cut_largest entry_of
-  cut_there q =
-      put_table_lem t s i (changed (get_or t.entries i no_entry_value) p) h
+  cut_there q u c es =
+      put_table_lem t s i (changed (get_or t.entries i no_entry_value) p) h u c es
       ∙ rw (length-table t s, ← e, entry_at_lem t s i no_entry_value h, q)
 
-  -- and it is well formed
-  pub cut-sound : WellFormed p → WellFormedTable (table_with t s i (changed (get_or t.entries i no_entry_value) p) h)
+  -- and its entries are well formed
+  pub cut-sound : (sp : WellFormed p) → WellFormedTable (table_with t s i (changed (get_or t.entries i no_entry_value) p) h sp)
   cut-sound sp = put-sound t s i (changed (get_or t.entries i no_entry_value) p) h sp

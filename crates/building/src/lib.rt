@@ -5,12 +5,12 @@ pub mod rounds; // rounds.rt: the pair that saves most, the cut, a round
 
 ghost use Rattle.std.specs.Prelude.{◌≡◌, ◌+◌, ◌≤◌, ◌<◌};
 ghost use Rattle.meaning.specs.Building.{steps_together, settle, round};
-ghost use Rattle.shapes.specs.Shapes.{table_of, WellFormedTable};
+ghost use Rattle.shapes.specs.Shapes.{table_of};
 ghost use Rattle.building.specs.Counting.{build_from};
 
 use crate::rounds::round;
 use settling::settle;
-use shapes::{Table, steps_together};
+use shapes::Table;
 
 // A table and the number of rounds that made it.
 #[derive(Clone, Copy)]
@@ -22,8 +22,8 @@ pub struct Made {
 impl Made {
     // One round more, and it is counted.
     fn one_more(self) -> Made
-        requires { WellFormedTable self.table × (self.rounds < 1024) }
-        ensures { (table_of result.table ≡ round (table_of self.table)) × (result.rounds ≡ self.rounds + 1) × WellFormedTable result.table }
+        requires { self.rounds < 1024 }
+        ensures { (table_of result.table ≡ round (table_of self.table)) × (result.rounds ≡ self.rounds + 1) }
     {
         Made {
             table: round(self.table),
@@ -34,10 +34,8 @@ impl Made {
 
 // The table for a limit, from the first entries on, and the number of rounds.
 pub fn build(limit: u16, first: Table) -> Made
-    requires { WellFormedTable first }
     ensures { (table_of result.table ≡ (build_from limit (table_of first)).entries)
-        × (result.rounds ≡ (build_from limit (table_of first)).rounds) × (result.rounds ≤ steps_together (settle (table_of first)))
-        × WellFormedTable result.table }
+        × (result.rounds ≡ (build_from limit (table_of first)).rounds) × (result.rounds ≤ steps_together (settle (table_of first))) }
 {
     let most = usize::from(limit);
     let settled = settle(first);
@@ -45,10 +43,10 @@ pub fn build(limit: u16, first: Table) -> Made
         table: settled,
         rounds: 0,
     };
-    let mut left = steps_together(settled);
+    let mut left = settled.steps_together();
     while most < left {
         m = m.one_more();
-        left = steps_together(m.table);
+        left = m.table.steps_together();
     }
     m
 }

@@ -3,7 +3,7 @@ ghost use Rattle.std.specs.Prelude.{◌≡◌, ◌+◌, ◌<◌, IfSome};
 ghost use Rattle.base.specs.Lists.{numbers_from};
 ghost use Rattle.meaning.specs.Merging.{merge};
 ghost use Rattle.meaning.specs.Building.{best_of, best_pair, cut, largest, cut_largest, merge_or_cut, round};
-ghost use Rattle.shapes.specs.Shapes.{pattern_of, WellFormed, table_of, WellFormedTable};
+ghost use Rattle.shapes.specs.Shapes.{pattern_of, WellFormed, table_of};
 ghost use Rattle.building.specs.Saving.{saved_by};
 ghost use Rattle.building.specs.Finding.{best_is, row_from};
 
@@ -31,7 +31,7 @@ fn saves(p: Pattern, q: Pattern) -> usize
 
 // The best of what was found and of the pairs (i, j) with j after i.
 fn best_in_row(t: &Table, i: usize, found: Option<Best>) -> Option<Best>
-    requires { WellFormedTable t.now × (i < t.now.count) }
+    requires { i < t.now.count }
     ensures { best_is result ≡ best_of (table_of t.now) (row_from t.now i (i + 1)) (best_is found) }
 {
     let p = t.entries[i].pattern;
@@ -47,7 +47,6 @@ fn best_in_row(t: &Table, i: usize, found: Option<Best>) -> Option<Best>
 
 // The first of the pairs i < j that saves most, if one saves any.
 fn best_pair(t: &Table) -> Option<Best>
-    requires { WellFormedTable t.now }
     ensures saves_most { best_is result ≡ best_pair (table_of t.now) }
     ensures there { IfSome result (λ b. (b.i < t.now.count) × (b.j < t.now.count)) }
 {
@@ -69,7 +68,7 @@ fn cut(mut p: Pattern) -> Pattern
 
 // The entry with most steps, the first on ties.
 fn largest(t: &Table) -> usize
-    requires { WellFormedTable t.now × (0 < t.now.count) }
+    requires { 0 < t.now.count }
     ensures { (result ≡ largest (table_of t.now) (numbers_from 0 t.now.count) 0) × (result < t.now.count) }
 {
     let mut i = 0;
@@ -83,8 +82,7 @@ fn largest(t: &Table) -> usize
 
 // The entry with most steps loses its last step.
 fn cut_largest(mut t: Table) -> Table
-    requires { WellFormedTable t }
-    ensures { (table_of result ≡ cut_largest (table_of t)) × WellFormedTable result }
+    ensures { table_of result ≡ cut_largest (table_of t) }
 {
     if t.count > 0 {
         let i = largest(&t);
@@ -95,8 +93,7 @@ fn cut_largest(mut t: Table) -> Table
 
 // The merge of the pair that saves most, with both sets of members, stands at i, and j is removed; or the cut.
 fn merge_or_cut(t: Table) -> Table
-    requires { WellFormedTable t }
-    ensures { (table_of result ≡ merge_or_cut (best_pair (table_of t)) (table_of t)) × WellFormedTable result }
+    ensures { table_of result ≡ merge_or_cut (best_pair (table_of t)) (table_of t) }
 {
     match best_pair(&t) {
         Some(best) => {
@@ -109,8 +106,7 @@ fn merge_or_cut(t: Table) -> Table
 
 // A round, settling included.
 pub fn round(t: Table) -> Table
-    requires { WellFormedTable t }
-    ensures { (table_of result ≡ round (table_of t)) × WellFormedTable result }
+    ensures { table_of result ≡ round (table_of t) }
 {
     let changed = merge_or_cut(t);
     settle(changed)

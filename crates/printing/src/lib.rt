@@ -7,14 +7,14 @@ ghost use Rattle.std.specs.Prelude.{◌≤◌, ◌≡◌};
 ghost use Rattle.meaning.specs.Numbers.{most_patterns};
 ghost use Rattle.meaning.specs.Routing.{members_of};
 ghost use Rattle.meaning.specs.Printing.{comma_text, entry_text};
-ghost use Rattle.shapes.specs.Shapes.{entry_of, WellFormed, WellFormedTable};
+ghost use Rattle.shapes.specs.Shapes.{entry_of, WellFormed};
 ghost use Rattle.texts.specs.PutText.{written, put};
 ghost use Rattle.texts.specs.Puts.{Puts};
 ghost use Rattle.labels.specs.LabelPlaces.{labels_in};
 ghost use Rattle.printing.specs.TableTexts.{totals_of, built_table, text_of};
 
 use members::is_member;
-use shapes::{Entry, Table, steps_together};
+use shapes::{Entry, Table};
 use texts::Text;
 
 // The members of an entry, of n subscriptions, ascending, with a comma between them.
@@ -55,12 +55,18 @@ fn put_entry(text: &mut Text, s: &[u8], e: &Entry, subscriptions: usize)
 
 // A table: the totals, and a line for each entry; the next place.
 pub fn put_table(out: &mut [u8], s: &[u8], t: Table, subscriptions: usize, rounds: usize) -> usize
-    requires { WellFormedTable t × (subscriptions ≤ most_patterns) }
+    requires { subscriptions ≤ most_patterns }
     ensures { written out.new result
         ≡ put (written out.old 0) (text_of (labels_in s.now) subscriptions (built_table t rounds)) }
 {
     let mut text = Text::new(out);
-    put_totals(&mut text, subscriptions, t.count, steps_together(t), rounds);
+    put_totals(
+        &mut text,
+        subscriptions,
+        t.count,
+        t.steps_together(),
+        rounds,
+    );
     for e in t.entries() {
         put_entry(&mut text, s, e, subscriptions);
     }

@@ -5,11 +5,12 @@ use Rattle.std.specs.List.{copy_within}
 use Rattle.std.proofs.Math.Seq.{paste, paste-suc}
 use Rattle.std.proofs.Math.Path.{refl, sym, ap}
 use Rattle.std.proofs.Common.{◌∙◌, arith, add-zero, add-one, length-set, length-drop, take-suc, take-suc-set, drop-set-lt, drop-drop, get_or-drop, take-append-drop}
-use mathlib.Core.List.{List, [], ◌∷◌, ◌++◌, map, append-nil, Memᴰ}
+use mathlib.Core.List.{List, [], ◌∷◌, ◌++◌, map, append-nil}
 use Rattle.base.specs.Lists.{without}
 use Rattle.base.specs.Replacing.{length_without, without-gives}
 use Rattle.base.specs.Mapping.{without-after, without-take, map-without}
-use Rattle.shapes.specs.Shapes.{WellFormed, entry_of, entries_in, table_of, WellFormedTable}
+use Rattle.shapes.specs.Patterns.{WellFormedAll}
+use Rattle.shapes.specs.Shapes.{entry_of, entries_in, table_of, WellFormedTable, well_formed_table}
 use Rattle.shapes.specs.declared.Entry.{Entry}
 use Rattle.shapes.specs.declared.Table.{Table}
 
@@ -72,23 +73,23 @@ module _ {A : Type 0} where
 
 -- the table whose entries are so moved, one less
 module _ (t : Table) (s : WellFormedTable t) (j k : ℕ) (m : List Entry) (h : j < t.count) (e : suc k ≡ t.count) (z : Moved t.entries j k m) where
-  -- the table that they are
-  abbrev pub removed : Table
-  removed = record { count = k; entries = m }
-
-  -- its entries
-  entries-removed : entries_in removed ≡ without j (entries_in t)
-  unfolding entries_in
-  entries-removed = z.moved ∙ sym (without-take j k t.entries z.from) ∙ ap (λ (n : ℕ). without j (take n t.entries)) e
-
-  -- what they stand for
-  pub table-removed : table_of removed ≡ without j (table_of t)
-  unfolding table_of
-  table-removed = ap (map entry_of) entries-removed ∙ map-without entry_of j (entries_in t)
+  -- the entries that are then there
+  moved_entries : take k m ≡ without j (take t.count t.entries)
+  moved_entries = z.moved ∙ sym (without-take j k t.entries z.from) ∙ ap (λ (n : ℕ). without j (take n t.entries)) e
 
   -- they are well formed
+  pub patterns-removed : WellFormedAll (take k m)
+  patterns-removed f p = t.patterns f (without-gives j (take t.count t.entries) (rw moved_entries at p))
+
+  -- the table that they are
+  abbrev pub removed : Table
+  removed = record { count = k; entries = m; few = omega (arith, t.few); full = z.long ∙ t.full; patterns = patterns-removed }
+
+  -- what its entries stand for
+  pub table-removed : table_of removed ≡ without j (table_of t)
+  unfolding table_of entries_in
+  table-removed = ap (map entry_of) moved_entries ∙ map-without entry_of j (entries_in t)
+
+  -- it is well formed
   pub sound-removed : WellFormedTable removed
-  sound-removed = record { few = omega (arith, s.few); full = z.long ∙ s.full; patterns = patterns }
-    where
-      patterns : (f : Entry) → Memᴰ f (entries_in removed) → WellFormed f.pattern
-      patterns f p = s.patterns f (without-gives j (entries_in t) (rw entries-removed at p))
+  sound-removed = well_formed_table removed

@@ -6,7 +6,7 @@ pub mod entries; // entries.rt: joining two entries
 ghost use Rattle.std.specs.Prelude.{◌≡◌, ◌-◌, ◌<◌, ◌≤◌, MatchOption};
 ghost use Rattle.base.specs.Loops.{scan};
 ghost use Rattle.meaning.specs.Building.{settle};
-ghost use Rattle.shapes.specs.Shapes.{table_of, WellFormedTable};
+ghost use Rattle.shapes.specs.Shapes.{table_of};
 ghost use Rattle.settling.specs.Settled.{covers_at};
 
 use crate::entries::join_at;
@@ -15,7 +15,7 @@ use shapes::Table;
 
 // The first entry from a place on that entry i covers, itself aside.
 fn first_covered(t: &Table, i: usize, from: usize) -> Option<usize>
-    requires { WellFormedTable t.now × (i < t.now.count) × (from ≤ t.now.count) }
+    requires { (i < t.now.count) × (from ≤ t.now.count) }
     ensures { MatchOption result (t.now.count ≡ scan (covers_at (table_of t.now) i) (t.now.count - from) from)
         (λ j. (j ≡ scan (covers_at (table_of t.now) i) (t.now.count - from) from) × (j < t.now.count)) }
 {
@@ -30,8 +30,7 @@ fn first_covered(t: &Table, i: usize, from: usize) -> Option<usize>
 
 // No pair is left where entry i covers entry j. What stands before the pair last found stays as it was, so the search goes on there.
 pub fn settle(mut t: Table) -> Table
-    requires { WellFormedTable t }
-    ensures { (table_of result ≡ settle (table_of t)) × WellFormedTable result }
+    ensures { table_of result ≡ settle (table_of t) }
 {
     let mut i = 0;
     let mut from = 0;

@@ -1,3 +1,4 @@
+pub mod Patterns
 pub mod Shapes
 pub mod Nodes
 pub mod Steps

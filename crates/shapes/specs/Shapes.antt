@@ -1,39 +1,14 @@
 -- What a pattern, an entry and a table by value stand for, and what is so of each that the hub makes; nodes as they stand in bytes.
-use Rattle.std.specs.Prelude.{ℕ, ◌+◌, ◌*◌, ◌≤◌, ◌≡◌, refl, length, get_or, take, replicate}
+use Rattle.std.specs.Prelude.{ℕ, ◌+◌, ◌*◌, ◌≤◌, ◌≡◌, refl, length, get_or, take}
 use mathlib.Core.List.{List, map, Memᴰ}
-use Rattle.std.proofs.Common.{arith}
 use Rattle.base.specs.Standing.{standing}
-use Rattle.meaning.specs.Numbers.{most_steps, most_entries}
-use Rattle.meaning.specs.Forest.{Forest, none, children_in, forest, steps_from, steps_of}
+use Rattle.meaning.specs.Numbers.{most_entries}
 use Rattle.meaning.specs.Sections.{Node}
 use Rattle.meaning.specs.Sections
-use Rattle.meaning.specs.declared.Step.{Step}
-use Rattle.shapes.specs.declared.Pattern.{Pattern}
+unfoldable pub use Rattle.shapes.specs.Patterns.{steps_in, pattern_of, no_steps}
+pub use Rattle.shapes.specs.Patterns.{WellFormed, no_steps-stand}
 use Rattle.shapes.specs.declared.Entry.{Entry}
 use Rattle.shapes.specs.declared.Table.{Table}
-
--- the steps that are there
-unfoldable pub steps_in : Pattern → List Step
-steps_in p = take p.count p.steps
-
-unfoldable pub pattern_of : Pattern → Forest
-pattern_of p = forest (steps_in p)
-
--- a pattern that is well formed: its steps are those of its forest, as they are written, so they stand in preorder, each
--- with a parent above it and an axis 0 or 1
-pub record WellFormed (p : Pattern) : Type 0 where
-  pub few : p.count ≤ most_steps
-  pub full : length p.steps ≡ most_steps
-  pub written : steps_of (pattern_of p) ≡ steps_in p
-
--- the pattern without steps
-unfoldable pub no_steps : Pattern
-no_steps = record { count = 0; steps = replicate most_steps (record { parent = 0; axis = 0; label = 0 }) }
-
--- it stands for no step, and is well formed
-pub no_steps-stand : (p : Pattern) → p ≡ no_steps → (pattern_of p ≡ none) × WellFormed p
-unfolding no_steps pattern_of steps_in forest children_in steps_of steps_from
-no_steps-stand p e = rw e (refl, record { few = omega arith; full = refl; written = refl })
 
 unfoldable pub entry_of : Entry → Sections.Entry
 entry_of e = record { members = e.members; pattern = pattern_of e.pattern }
@@ -45,10 +20,20 @@ entries_in t = take t.count t.entries
 unfoldable pub table_of : Table → List Sections.Entry
 table_of t = map entry_of (entries_in t)
 
+-- tables of the same entries stand for the same
+pub same_table : (t u : Table) → u.count ≡ t.count → u.entries ≡ t.entries → table_of u ≡ table_of t
+unfolding table_of entries_in
+same_table t u c es = rw (c, es) refl
+
 pub record WellFormedTable (t : Table) : Type 0 where
   pub few : t.count ≤ most_entries
   pub full : length t.entries ≡ most_entries
   pub patterns : (e : Entry) → Memᴰ e (entries_in t) → WellFormed e.pattern
+
+-- every table is
+pub well_formed_table : (t : Table) → WellFormedTable t
+unfolding entries_in
+well_formed_table t = record { few = t.few; full = t.full; patterns = t.patterns }
 
 -- ---- nodes as they stand in bytes
 

@@ -1,11 +1,12 @@
-// Patterns, entries and tables by value, and what each stands for (specs/Shapes.antt).
+// Patterns, entries and tables by value, and what each stands for (specs/Patterns.antt, specs/Shapes.antt).
 #![tactic(auto)]
 
 pub mod nodes; // nodes.rt: the nodes of a document, as they stand in its bytes
 
-ghost use Rattle.std.specs.Prelude.{◌≡◌, ◌≤◌};
-ghost use Rattle.meaning.specs.Building.{steps_together};
-ghost use Rattle.shapes.specs.Shapes.{steps_in, entries_in, no_steps, table_of, WellFormed, WellFormedTable};
+ghost use Rattle.std.specs.Prelude.{◌≡◌, ◌≤◌, length, take};
+ghost use Rattle.std.proofs.Props.{props};
+ghost use Rattle.meaning.specs.Numbers.{most_entries};
+ghost use Rattle.shapes.specs.Patterns.{steps_in, no_steps, WellFormed, WellFormedAll, step_coded};
 
 use meaning::{MOST_ENTRIES, MOST_STEPS, Step};
 
@@ -33,20 +34,36 @@ pub struct Entry {
     pub pattern: Pattern,
 }
 
-// A table: the first `count` of its entries.
+// A table: the first `count` of its entries, whose patterns are well formed.
 #[derive(Clone, Copy)]
 pub struct Table {
     pub count: usize,
     pub entries: [Entry; MOST_ENTRIES],
+    pub ghost few: { count ≤ most_entries },
+    pub ghost full: { length entries ≡ most_entries },
+    pub ghost patterns: { WellFormedAll (take count entries) } by { Prim.hlevel (props, step_coded) },
 }
 
 impl Table {
+    ghost use Rattle.meaning.specs.Building.{steps_together};
+    ghost use Rattle.shapes.specs.Shapes.{entries_in, table_of};
+
     // The entries that are there.
     pub fn entries(&self) -> &[Entry]
-        requires { WellFormedTable self.now }
         ensures { result.now ≡ entries_in self.now }
     {
         &self.entries[..self.count]
+    }
+
+    // The steps of all entries together.
+    pub fn steps_together(&self) -> usize
+        ensures { (result ≡ steps_together (table_of self.now)) × (result ≤ 1024) }
+    {
+        let mut n = 0;
+        for e in self.entries() {
+            n += e.pattern.count;
+        }
+        n
     }
 }
 
@@ -62,16 +79,4 @@ pub fn no_steps() -> Pattern
             label: 0,
         }; MOST_STEPS],
     }
-}
-
-// The steps of all entries together.
-pub fn steps_together(t: Table) -> usize
-    requires { WellFormedTable t }
-    ensures { (result ≡ steps_together (table_of t)) × (result ≤ 1024) }
-{
-    let mut n = 0;
-    for e in t.entries() {
-        n += e.pattern.count;
-    }
-    n
 }

@@ -1,12 +1,12 @@
 -- The subscriptions of a sheet that was judged, by their places: how many there are, and the pattern of each.
-use Rattle.std.specs.Prelude.{ℕ, ◌≤◌, ◌<◌, ◌≡◌, true, false, List, length, get_or, refl}
-use Rattle.std.specs.Coded.{Coded, code_by, coded_list, coded_ℕ, coded×}
+use Rattle.std.specs.Prelude.{ℕ, ◌≤◌, ◌<◌, ◌≡◌, true, false, List, length, get_or}
+use Rattle.std.specs.Coded.{Coded, code_by, coded_list}
 use Rattle.std.proofs.Common.{arith, lt-ltb, le-ltb}
 use Rattle.laws.specs.Bridge.{forest-steps_of}
 use Rattle.meaning.specs.declared.Step.{Step}
 use Rattle.meaning.specs.Forest.{Forest, none, forest, steps_of}
 use Rattle.meaning.specs.Calls.{is_subscription}
-use Rattle.shapes.specs.Shapes.{pattern_of, WellFormed}
+use Rattle.shapes.specs.Patterns.{pattern_of, WellFormed, step_coded}
 use Rattle.shapes.specs.declared.Pattern.{Pattern}
 use Rattle.laws.specs.RoundTrip.{sheet-read}
 use Rattle.reading.specs.SheetPlaces.{sheet_at}
@@ -48,11 +48,6 @@ module _ {s : List ℕ} {v : Subscriptions} (stand : SubscriptionsStand s v) (i 
   unfolding is_subscription
   number_unsubscribed h = rw (← stand.counted) (le-ltb i v.count h)
 
--- a step is its three numbers, and a forest its steps: so two proofs that forests are the same don't differ
-step_coded : Coded Step
-step_coded =
-    code_by (ℕ × (ℕ × ℕ)) (coded× coded_ℕ (coded× coded_ℕ coded_ℕ)) (λ t. (t.parent, (t.axis, t.label)))
-    (λ (a, b). record { parent = a; axis = b.0; label = b.1 }) (λ _. refl)
-
+-- a forest is its steps: so two proofs that forests are the same don't differ
 pub forest_coded : Coded Forest
 forest_coded = code_by (List Step) (coded_list step_coded) steps_of forest forest-steps_of

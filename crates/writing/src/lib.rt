@@ -6,7 +6,7 @@ ghost use Rattle.std.proofs.lemmas.List.Edits.{sets};
 ghost use Rattle.meaning.specs.Calls.{writes};
 ghost use Rattle.meaning.specs.LineCalls.{output_answer};
 ghost use Rattle.meaning.specs.Written.{step_bytes, pattern_bytes, table_bytes};
-ghost use Rattle.shapes.specs.Shapes.{pattern_of, table_of, WellFormed, WellFormedTable};
+ghost use Rattle.shapes.specs.Shapes.{pattern_of, table_of, WellFormed};
 ghost use Rattle.writing.specs.BytesWritten.{bytes_of};
 ghost use Rattle.writing.specs.Gives.{Gives};
 
@@ -70,7 +70,6 @@ pub fn write_pattern(out: &mut [u8], p: Pattern) -> Result<usize, Refusal>
 
 // How many bytes a table takes.
 pub fn table_length(t: &Table) -> usize
-    requires { WellFormedTable t.now }
     ensures { (result ≡ length (table_bytes (table_of t.now))) × (result ≤ 3649) }
 {
     let mut long = 1;
@@ -82,7 +81,7 @@ pub fn table_length(t: &Table) -> usize
 
 // A count and the entries, from the output's start.
 fn put_table(out: &mut [u8], t: &Table)
-    requires { WellFormedTable t.now × (length (table_bytes (table_of t.now)) ≤ length out.old) }
+    requires { length (table_bytes (table_of t.now)) ≤ length out.old }
     ensures { out.new ≡ sets out.old 0 (table_bytes (table_of t.now)) }
 {
     out[0] = t.count as u8;
@@ -94,7 +93,6 @@ fn put_table(out: &mut [u8], t: &Table)
 
 // Writes a table where there is room for it, and says how many bytes; where there is none, the output is as found.
 pub fn write_table(out: &mut [u8], t: &Table) -> Result<usize, Refusal>
-    requires { WellFormedTable t.now }
     ensures { Gives output_answer out.old (writes tt (table_bytes (table_of t.now))) result out.new }
 {
     let long = table_length(t);

@@ -8,8 +8,7 @@ use Rattle.building.proofs.build.Goals as goal
 
 pub loop-left-init : goal.loop-left-init
 loop-left-init c =
-    let r = c.settle-settled in
-    (rounds-start _ _, r.ensures.1, c.steps_together-left.ensures.0, omega arith)
+    (rounds-start _ _, c.steps_together-left.ensures.0, omega arith)
 
 pub loop-left-smaller : goal.loop-left-smaller
 loop-left-smaller c =
@@ -21,7 +20,7 @@ pub loop-left-preserved : goal.loop-left-preserved
 loop-left-preserved c =
     let l = c.loop-left in
     let r = c.one_more-m.ensures in
-    (rw (r.1, r.0) (rounds-go_on l.invariant.0 (omega arith)), r.2, c.steps_together-left-in-loop-left.ensures.0, l.invariant.3)
+    (rw (r.1, r.0) (rounds-go_on l.invariant.0 (omega arith)), c.steps_together-left-in-loop-left.ensures.0, l.invariant.2)
 
 pub returns : goal.returns
 unfolding build_from
@@ -29,8 +28,7 @@ returns c =
     let s = c.settle-settled in
     let l = c.loop-left in
     let e = rw c.from-most.ensures at (rounds-end l.invariant.0 (omega arith)) in (
-      e.0 ∙ ap (λ es. (build_settled c.args.limit es).entries) s.ensures.0,
-      e.1 ∙ ap (λ es. (build_settled c.args.limit es).rounds) s.ensures.0,
-      omega (arith, l.invariant.0.few, ap steps_together s.ensures.0),
-      l.invariant.1,
+      e.0 ∙ ap (λ es. (build_settled c.args.limit es).entries) s.ensures,
+      e.1 ∙ ap (λ es. (build_settled c.args.limit es).rounds) s.ensures,
+      omega (arith, l.invariant.0.few, ap steps_together s.ensures),
     )

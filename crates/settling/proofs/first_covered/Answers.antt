@@ -3,7 +3,7 @@ use mathlib.Core.Bool.{false}
 use native.Mathlib.Omega.{arith}
 use borrow.Author.Rules.{rules}
 use Rattle.base.specs.Scanning.{scan-stops, scan-goes_on, scan-ends}
-use Rattle.shapes.specs.Shapes.{table_of}
+use Rattle.shapes.specs.Shapes.{table_of, well_formed_table}
 use Rattle.shapes.specs.TableValues.{no_entry_value, entry-sound}
 use Rattle.settling.specs.Settled.{covers_at}
 use Rattle.settling.specs.SettlingLoop.{covers-itself, covers_other_lem}
@@ -13,14 +13,14 @@ use Rattle.settling.proofs.first_covered.Goals.{else-k-i-via-then-k-i+else-cover
 pub covers-requires : goal.covers-requires
 covers-requires c =
     let t = c.args.t.now in
-    let one = entry-sound t c.requires.0 c.args.i no_entry_value c.requires.1 in
-    let other = entry-sound t c.requires.0 c.loop-k.k no_entry_value (omega arith) in
+    let one = entry-sound t (well_formed_table t) c.args.i no_entry_value c.requires.0 in
+    let other = entry-sound t (well_formed_table t) c.loop-k.k no_entry_value (omega arith) in
     search rules
 
 pub returns-then-covers : goal.returns-then-covers
 returns-then-covers c =
     let l = c.loop-k in
-    let other = covers_other_lem c.args.t.now c.args.i l.k c.requires.0 c.requires.1 (omega arith) c.if-k-i.true in
+    let other = covers_other_lem c.args.t.now c.args.i l.k (well_formed_table c.args.t.now) c.requires.0 (omega arith) c.if-k-i.true in
     (scan-stops _ _ _ _ (omega arith) (sym other ∙ sym c.covers.ensures ∙ c.if-covers.true) l.invariant, omega arith)
 
 pub loop-k-preserved : goal.loop-k-preserved
@@ -30,7 +30,7 @@ loop-k-preserved c =
     let here : covers_at (table_of t) c.args.i l.k ≡ false =
     elim c.else-k-i.branch [
       | else-k-i-via-then-k-i+else-covers w ↦
-          sym (covers_other_lem t c.args.i l.k c.requires.0 c.requires.1 (omega arith) w.if-k-i.true) ∙ sym w.covers.ensures ∙ w.if-covers.false
+          sym (covers_other_lem t c.args.i l.k (well_formed_table t) c.requires.0 (omega arith) w.if-k-i.true) ∙ sym w.covers.ensures ∙ w.if-covers.false
       | else-k-i-via-else-k-i w ↦ covers-itself t c.args.i l.k w.if-k-i.false
     ] in
     scan-goes_on _ _ _ _ (omega arith) here l.invariant

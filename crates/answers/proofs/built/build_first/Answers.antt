@@ -9,11 +9,11 @@ pub returns : goal.returns
 returns c =
     let b = c.build-made in
     let w = was_written _ _ _ _ c.in_ok-length.ensures in
-    build-same _ _ _ (build_is _ _ _ b.result c.first_entries.ensures.0 b.ensures.0 b.ensures.1) _ _ (build-written _ _ _ _ w.0 _ w.1 refl _ w.2)
+    build-same _ _ _ (build_is _ _ _ b.result c.first_entries.ensures b.ensures.0 b.ensures.1) _ _ (build-written _ _ _ _ w.0 _ w.1 refl _ w.2)
 
 pub returns-in_err-length : goal.returns-in_err-length
 returns-in_err-length c =
     let b = c.build-made in
     let w = had_no_room _ _ _ _ c.in_err-length.ensures in
     rw (exits _ _ c.from_residual.ensures.1, w.2)
-    (build-same _ _ _ (build_is _ _ _ b.result c.first_entries.ensures.0 b.ensures.0 b.ensures.1) _ _ (build-no_room _ _ _ _ w.0 _ w.1 refl))
+    (build-same _ _ _ (build_is _ _ _ b.result c.first_entries.ensures b.ensures.0 b.ensures.1) _ _ (build-no_room _ _ _ _ w.0 _ w.1 refl))

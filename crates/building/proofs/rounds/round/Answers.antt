@@ -5,4 +5,4 @@ use Rattle.building.proofs.rounds.round.Goals as goal
 
 pub returns : goal.returns
 unfolding round
-returns c = (c.settle.ensures.0 ∙ ap settle c.merge_or_cut-changed.ensures.0, c.settle.ensures.1)
+returns c = c.settle.ensures ∙ ap settle c.merge_or_cut-changed.ensures

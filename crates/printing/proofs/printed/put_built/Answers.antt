@@ -9,4 +9,4 @@ returns c =
     let b = c.build-made in
     let first = c.first_entries in
     c.put_table.ensures
-    ∙ ap (put _) (text-built _ _ _ _ _ _ c.count.ensures.0 first.ensures.0 b.ensures.0 b.ensures.1)
+    ∙ ap (put _) (text-built _ _ _ _ _ _ c.count.ensures.0 first.ensures b.ensures.0 b.ensures.1)
