@@ -87,9 +87,15 @@ module _ {a b : Pattern} {notes : List (Option Bool)} (h : Noted a b notes) (v w
   }
 
   -- otherwise its children decide, and their answer is noted
-  pub children_decide : (may : Bool) (before : List (Option Bool)) → None ≡ known_at may v w before
+  pub children_decide : (may : Bool) (before : List (Option Bool)) {known : Option Bool} → known ≡ known_at may v w before → (known ≡ Some false → ⊥)
       → {lie r : Bool} {after : List (Option Bool)} → lie ≡ children_lie (steps_in a) v (steps_in b) w → (r ≡ lie) × (after ≡ set notes (cell_of v w) (Some lie))
       → (r ≡ (may && children_lie (steps_in a) v (steps_in b) w)) × Noted a b after
   unfolding known_at pick
-  children_decide true before e {lie} d put = (put.0 ∙ d, rw put.1 (note-put lie d))
-  children_decide false before e d put = cc
+  children_decide true before e o {lie} d put = (put.0 ∙ d, rw put.1 (note-put lie d))
+  children_decide false before e o d put = absurd (o e)
+
+  -- so it is where nothing is noted
+  pub unknown_decides : (may : Bool) (before : List (Option Bool)) → None ≡ known_at may v w before
+      → {lie r : Bool} {after : List (Option Bool)} → lie ≡ children_lie (steps_in a) v (steps_in b) w → (r ≡ lie) × (after ≡ set notes (cell_of v w) (Some lie))
+      → (r ≡ (may && children_lie (steps_in a) v (steps_in b) w)) × Noted a b after
+  unknown_decides may before e = children_decide may before e (λ z. let q : ◌≡◌ {A = ℕ} 0 1 = cc in omega arith)

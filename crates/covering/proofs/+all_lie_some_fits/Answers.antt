@@ -7,7 +7,7 @@ use native.Mathlib.Omega.{arith}
 use Rattle.shapes.specs.Shapes.{steps_in}
 use Rattle.shapes.specs.Steps.{step_in, step-number}
 use Rattle.covering.specs.Questions.{children_lie}
-use Rattle.covering.specs.PairNotes.{PairOfSteps, Noted, known-lies, children_decide}
+use Rattle.covering.specs.PairNotes.{PairOfSteps, Noted, known-lies, unknown_decides}
 use Rattle.covering.specs.LayingLoops.{laying_starts, child_lies, child_doesn't, no_child, all_lay}
 use Rattle.covering.specs.LayingLoops.{next-parent_tells, search_starts, block_ends, place_fits_lem, place_doesn't, steps-done}
 use Rattle.covering.proofs.+all_lie_some_fits.Goals as goal
@@ -68,7 +68,7 @@ some_fits-returns-then-fits t c =
       | some_fits-in-Some w ↦ rw (w.notes-is, w.fits-is) (known-lies i.0 c.args.k (c.loop-u.u + 1) pair _ w.in-Some.ensures, i.0)
       | some_fits-in-None w ↦
           rw (w.notes-is, w.fits-is)
-          (children_decide w.all_lie.ensures.1 c.args.k (c.loop-u.u + 1) pair _ _ w.in-None.ensures w.all_lie.ensures.0 w.note-fits.ensures)
+          (unknown_decides w.all_lie.ensures.1 c.args.k (c.loop-u.u + 1) pair _ _ w.in-None.ensures w.all_lie.ensures.0 w.note-fits.ensures)
     ] in
     (place_fits_lem i.1 (omega arith) (omega arith) c.may_lie_below.ensures r.0 c.if-fits.true, r.1)
 
@@ -84,7 +84,7 @@ some_fits-loop-u-preserved t c =
       | some_fits-in-Some w ↦ rw (w.notes-is, w.fits-is) (known-lies i.0 c.args.k (c.loop-u.u + 1) pair _ w.in-Some.ensures, i.0)
       | some_fits-in-None w ↦
           rw (w.notes-is, w.fits-is)
-          (children_decide w.all_lie.ensures.1 c.args.k (c.loop-u.u + 1) pair _ _ w.in-None.ensures w.all_lie.ensures.0 w.note-fits.ensures)
+          (unknown_decides w.all_lie.ensures.1 c.args.k (c.loop-u.u + 1) pair _ _ w.in-None.ensures w.all_lie.ensures.0 w.note-fits.ensures)
     ] in
     (r.1, place_doesn't i.1 (omega arith) (omega arith) c.may_lie_below.ensures r.0 c.if-fits.false)
 
