@@ -1,5 +1,5 @@
-// The table check: whether a table is fair beside its sheet. Sheet, table and members are lent: by value each call would copy
-// them on the stack.
+// The table check: whether a table is fair beside its sheet. The members are lent: by value each call would copy them on the
+// stack.
 #![tactic(auto)]
 
 ghost use Rattle.std.specs.Prelude.{◌≤◌, ◌<◌, ◌≡◌, length, get_or};

@@ -13,8 +13,6 @@ pub fn steps_within(s: &[u8], line: &[u8]) -> Result<Found, usize>
     if line.len() <= LONGEST_LINE {
         return steps_of(s, line);
     }
-    match steps_of(s, &line[..LONGEST_LINE]) {
-        Ok(_) => Err(LONGEST_LINE),
-        Err(place) => Err(place),
-    }
+    steps_of(s, &line[..LONGEST_LINE])?;
+    Err(LONGEST_LINE)
 }

@@ -1,5 +1,4 @@
-// The route by a table: its entries are tried, and the members of each that matches. Sheet, table and nodes are lent: a copy
-// of their places would take half a kilobyte of stack for each call on the way.
+// The route by a table: its entries are tried, and the members of each that matches.
 ghost use Rattle.std.specs.Prelude.{◌≡◌, ◌^◌, ◌<◌, length};
 ghost use Rattle.meaning.specs.Satisfying.{satisfies};
 ghost use Rattle.meaning.specs.Calls.{subscription};

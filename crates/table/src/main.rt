@@ -19,8 +19,7 @@ fn main() {
 
 // Writes the first bytes of a text.
 fn show(text: &[u8], long: usize) {
-    let from = 0;
     if long <= text.len() {
-        io::write_all(STDOUT_FILENO, &text[from..long]);
+        io::write_all(STDOUT_FILENO, &text[..long]);
     }
 }

@@ -60,7 +60,7 @@ fn entries_from(t: &[u8], known: usize, p: usize, n: usize) -> Result<usize, Ref
     ensures { result ≡ run (each_place (entry_section t.now known)) n 0 p }
 {
     let mut x = p;
-    for i in 0..n {
+    for _ in 0..n {
         x = entry(t, known, x)?;
     }
     Ok(x)

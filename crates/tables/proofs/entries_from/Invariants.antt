@@ -5,5 +5,5 @@ use Rattle.places.specs.InTurn.{each_place}
 use Rattle.tables.specs.TableSection.{entry_section}
 use Rattle.tables.proofs.entries_from.Given as goal
 
-abbrev pub invariant-loop-i : goal.invariant-loop-i
-invariant-loop-i l = ReadSoFar (each_place (entry_section l.t l.known)) l.n l.p l.i l.x
+abbrev pub invariant-loop : goal.invariant-loop
+invariant-loop l = ReadSoFar (each_place (entry_section l.t l.known)) l.n l.p l.counter l.x

@@ -2,6 +2,7 @@
 use mathlib.Core.Path.{refl, sym}
 use native.Mathlib.Omega.{arith}
 use lib.Seq.{length-take-le}
+use Rattle.base.specs.Exits.{exits}
 use Rattle.meaning.specs.Numbers.{longest_line}
 use Rattle.lines.specs.Found.{off_line}
 use Rattle.lines.specs.Limit.{within-limit, longer-sound, longer_off}
@@ -13,9 +14,9 @@ returns-then-line-le-LONGEST_LINE c = within-limit _ _ _ c.if-line-le-LONGEST_LI
 pub slice_bounds-steps_of-end : goal.slice_bounds-steps_of-end
 slice_bounds-steps_of-end c = sym (length-take-le longest_line c.args.line.now (omega arith))
 
-pub returns-in-Ok : goal.returns-in-Ok
+pub returns : goal.returns
 unfolding off_line
-returns-in-Ok c = longer-sound _ _ (omega arith) _ c.in-Ok.ensures _ refl
+returns c = longer-sound _ _ (omega arith) _ c.in_ok-steps_of.ensures _ refl
 
-pub returns-in-Err : goal.returns-in-Err
-returns-in-Err c = longer_off _ _ (omega arith) _ c.in-Err.ensures
+pub returns-in_err-steps_of : goal.returns-in_err-steps_of
+returns-in_err-steps_of c = rw (exits _ _ c.from_residual.ensures.1) (longer_off _ _ (omega arith) _ c.in_err-steps_of.ensures)
