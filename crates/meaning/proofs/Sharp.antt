@@ -144,6 +144,10 @@ module _ (s : List ℕ) where
   pub sheet_check_sharp : (x y : ℕ) → SheetCheckGives s x → SheetCheckGives s y → x ≡ y
   sheet_check_sharp x y = only_one
 
+  -- of a check: the number, as above and as C is given it, and so the result
+  pub sheet_check-result_sharp : (x y : Result (Unit {0}) Refusal) → SheetCheckGives s (number_given x) → SheetCheckGives s (number_given y) → x ≡ y
+  sheet_check-result_sharp x y e f = checked_tells x y (only_one e f)
+
   pub covers_sharp : (i j : ℕ) (x y : Result Bool Refusal) → CoversGives s i j (asked_given x) → CoversGives s i j (asked_given y) → x ≡ y
   covers_sharp i j x y e f = asked_tells x y (only_one e f)
 
@@ -151,6 +155,10 @@ module _ (s : List ℕ) where
   module _ (d : List ℕ) where
     pub document_check_sharp : (x y : ℕ) → DocumentCheckGives s d x → DocumentCheckGives s d y → x ≡ y
     document_check_sharp x y = only_one
+
+    pub document_check-result_sharp : (x y : Result (Unit {0}) Refusal) → DocumentCheckGives s d (number_given x)
+        → DocumentCheckGives s d (number_given y) → x ≡ y
+    document_check-result_sharp x y e f = checked_tells x y (only_one e f)
 
     pub matches_sharp : (i : ℕ) (x y : Result Bool Refusal) → MatchesGives s d i (asked_given x) → MatchesGives s d i (asked_given y) → x ≡ y
     matches_sharp i x y e f = asked_tells x y (only_one e f)
@@ -161,6 +169,10 @@ module _ (s : List ℕ) where
     pub label_number_sharp : (n x y : ℕ) → LabelNumberGives s d n x → LabelNumberGives s d n y → x ≡ y
     label_number_sharp n x y = only_one
 
+    pub label_number-result_sharp : (n : ℕ) (x y : Result (Unit {0}) Refusal) → LabelNumberGives s d n (number_given x)
+        → LabelNumberGives s d n (number_given y) → x ≡ y
+    label_number-result_sharp n x y e f = checked_tells x y (only_one e f)
+
     pub label_bytes_sharp : (n : ℕ) (x y : List ℕ) → LabelBytesGives s d n x → LabelBytesGives s d n y → x ≡ y
     label_bytes_sharp n x y = only_one
 
@@ -168,6 +180,9 @@ module _ (s : List ℕ) where
   module _ (t : List ℕ) where
     pub table_check_sharp : (x y : ℕ) → TableCheckGives s t x → TableCheckGives s t y → x ≡ y
     table_check_sharp x y = only_one
+
+    pub table_check-result_sharp : (x y : Result (Unit {0}) Refusal) → TableCheckGives s t (number_given x) → TableCheckGives s t (number_given y) → x ≡ y
+    table_check-result_sharp x y e f = checked_tells x y (only_one e f)
 
     pub table_route_sharp : (d : List ℕ) (x y : Result Tabled Refusal) → TableRouteGives s t d (tabled_given x) → TableRouteGives s t d (tabled_given y) → x ≡ y
     table_route_sharp d x y e f = tabled_tells x y (only_one e f)
