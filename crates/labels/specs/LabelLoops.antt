@@ -1,8 +1,13 @@
 -- What a turn of the loop over two labels keeps; the parts of a slice that are labels, and label n of a sheet.
 use Prim.Native.Nat.{ℕ, zero, suc, ◌+◌, ◌-◌, ◌<◌, ◌≤◌}
-use Rattle.std.specs.Prelude.{◌≡◌, Bool, true, false, ◌&&◌, eqb, drop}
+use Rattle.std.specs.Prelude.{◌≡◌, ◌⊎◌, Bool, true, false, ◌&&◌, eqb, drop, Option, None, Some}
+use Rattle.std.specs.Option.{MatchOption, option_eq}
+use Rattle.std.specs.Array.{IsFirstChunk}
+use Rattle.std.specs.Cmp.Lexicographic.{same_text}
+use denote.Ref.{Bor}
 use Rattle.std.proofs.Math.Path.{refl, sym, ap}
-use Rattle.std.proofs.Common.{◌∙◌}
+use Rattle.std.proofs.Common.{◌∙◌, inl, inr, true≢false}
+use Rattle.base.specs.Bools.{true_or_false}
 use mathlib.Core.List.{List, [], ◌∷◌}
 use Rattle.std.proofs.Math.ListN.{length, get_or, take, length-drop, get_or-eq_default, drop_of_length-le}
 use Rattle.std.proofs.Math.Seq.{drop-cons, take_all}
@@ -36,6 +41,39 @@ unequal_lengths (x ∷ a) (y ∷ b) h = go (eqb x y) (unequal_lengths a b (λ e.
     go : (t : Bool) → false ≡ same_label a b → false ≡ (t && same_label a b)
     go true e = e
     go false e = refl
+
+-- ---- the first bytes of two labels, asked for where there are so many
+
+-- bytes are alike to the same bytes
+alike_same : (xs ys : List ℕ) → xs ≡ ys → pointwise eqb xs ys ≡ true
+alike_same xs ys e = rw e (go ys)
+  where
+    go : (zs : List ℕ) → pointwise eqb zs zs ≡ true
+    go [] = refl
+    go (z ∷ zs) = rw (eq-eqb z z refl) (go zs)
+
+-- whether two beginnings, where both are there, are alike
+abbrev pub alike : Option (Bor (List ℕ)) → Option (Bor (List ℕ)) → Bool
+alike = option_eq (λ x y. pointwise eqb x.now y.now)
+
+module _ (n : ℕ) (a b : List ℕ) where
+  -- x is the first n bytes of a, or a is too short
+  abbrev pub Begins : List ℕ → Option (Bor (List ℕ)) → Type 0
+  Begins text x = MatchOption x (length text < n) (λ y. IsFirstChunk text y.now n)
+
+  same_beginnings : a ≡ b → (x y : Option (Bor (List ℕ))) → Begins a x → Begins b y → alike x y ≡ true
+  same_beginnings e None None h k = refl
+  same_beginnings e None (Some y) h k = absurd (omega (arith, ap length e, k.enough))
+  same_beginnings e (Some x) None h k = absurd (omega (arith, ap length e, h.enough))
+  same_beginnings e (Some x) (Some y) h k = alike_same x.now y.now (h.same ∙ ap (take n) e ∙ sym k.same)
+
+  -- labels that begin otherwise are not the same
+  pub unlike_beginnings : (x y : Option (Bor (List ℕ))) → Begins a x → Begins b y → alike x y ≡ false → false ≡ same_label a b
+  unlike_beginnings x y h k unlike = go (true_or_false (same_label a b))
+    where
+      go : (same_label a b ≡ true) ⊎ (same_label a b ≡ false) → false ≡ same_label a b
+      go (inr e) = sym e
+      go (inl e) = absurd (true≢false (sym (same_beginnings (same_text a b (sym (same-pointwise a b ∙ e))) x y h k) ∙ unlike))
 
 -- labels of one length, i bytes passed: the bytes that are left decide whether they are the same
 pub record SameSoFar (a b : List ℕ) (i : ℕ) : Type 0 where

@@ -41,11 +41,13 @@ fn after_label(s: &[u8], p: usize) -> usize
     p
 }
 
-// Labels are equal only if every byte is.
+// Labels are equal only if every byte is. Many begin alike, so eight bytes are compared at once before all are. It is the
+// test of loops, and is put into them.
+#[inline(always)]
 fn same_label(a: &[u8], b: &[u8]) -> bool
     ensures { result ≡ same_label a.now b.now }
 {
-    a == b
+    a.len() == b.len() && a.first_chunk::<8>() == b.first_chunk::<8>() && a == b
 }
 
 // The text is one of the n labels from the place p on.
