@@ -7,7 +7,7 @@ ghost use Rattle.std.specs.Prelude.{◌≡◌, ◌≤◌, ◌<◌, length, set};
 ghost use Rattle.meaning.specs.Covering.{covers};
 ghost use Rattle.shapes.specs.Shapes.{pattern_of, steps_in, WellFormed};
 ghost use Rattle.covering.specs.Questions.{children_lie, some_fits, lies_at};
-ghost use Rattle.covering.specs.PairNotes.{pair_count, PairOfSteps, cell_of, known_at, Noted};
+ghost use Rattle.covering.specs.PairNotes.{pair_count, PairOfSteps, cell_of, note_of, noted, known_at, Noted};
 
 use meaning::MOST_STEPS;
 use shapes::Pattern;
@@ -16,8 +16,9 @@ use steps::{any_or_same, may_lie_below, starred_leaf};
 // Pairs of steps, one of each of two patterns.
 pub const PAIRS: usize = MOST_STEPS * MOST_STEPS;
 
-// What is noted of each pair: whether the children of the one lie below the other, once it was asked.
-pub type Notes = [Option<bool>; PAIRS];
+// What is noted of each pair: 1 that the children of the one lie below the other, 2 that they don't; any other number says
+// nothing. Notes are numbers since whoever lends them may hold any (docs/DESIGN-PASS.md).
+pub type Notes = [u8; PAIRS];
 
 // The cell of a pair of steps, where there is one for each.
 pub fn cell(v: usize, w: usize) -> usize
@@ -27,21 +28,36 @@ pub fn cell(v: usize, w: usize) -> usize
     (v - 1) * MOST_STEPS + (w - 1)
 }
 
+// What a note says.
+fn said(note: u8) -> Option<bool>
+    ensures { result ≡ noted note }
+{
+    match note {
+        1 => Some(true),
+        2 => Some(false),
+        _ => None,
+    }
+}
+
 // What is known of step v of A at step w of B before its children are asked: whether it lies there. Where it may by itself,
 // what is noted of its children decides.
 fn known_at(may: bool, v: usize, w: usize, notes: &Notes) -> Option<bool>
     requires { PairOfSteps v w }
     ensures { result ≡ known_at may v w notes.now }
 {
-    if may { notes[cell(v, w)] } else { Some(false) }
+    if may {
+        said(notes[cell(v, w)])
+    } else {
+        Some(false)
+    }
 }
 
 // Notes whether the children of v lie below w, and hands the answer on.
 fn note(v: usize, w: usize, lie: bool, notes: &mut Notes) -> bool
     requires { (length notes.old ≡ pair_count) × PairOfSteps v w }
-    ensures { (result ≡ lie) × (notes.new ≡ set notes.old (cell_of v w) (Some lie)) }
+    ensures { (result ≡ lie) × (notes.new ≡ set notes.old (cell_of v w) (note_of lie)) }
 {
-    notes[cell(v, w)] = Some(lie);
+    notes[cell(v, w)] = if lie { 1 } else { 2 };
     lie
 }
 
@@ -116,6 +132,6 @@ pub fn covers(a: Pattern, b: Pattern) -> bool
     requires { WellFormed a × WellFormed b }
     ensures { result ≡ covers (pattern_of a) (pattern_of b) }
 {
-    let mut notes = [None; PAIRS];
+    let mut notes = [0; PAIRS];
     covers_noting(a, b, &mut notes)
 }

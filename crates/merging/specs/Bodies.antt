@@ -63,9 +63,9 @@ pub record Remembered (p q : Pattern) (memo : List (Option Marked)) : Type 0 whe
 pub record Known (p q : Pattern) (m : Merging) : Type 0 where
   pub first : m.p ≡ p
   pub second : m.q ≡ q
-  pub bodies : Remembered p q m.bodies
-  pub onto : Noted p q m.there
-  pub from : Noted q p m.back
+  pub bodies : Remembered p q m.bodies.now
+  pub onto : Noted p q m.there.now
+  pub from : Noted q p m.back.now
 
 -- the empty table
 pub nothing_known : (p q : Pattern) → Remembered p q (replicate pair_count None)

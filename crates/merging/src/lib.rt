@@ -6,6 +6,7 @@ ghost use Rattle.meaning.specs.Numbers.{most_steps};
 ghost use Rattle.meaning.specs.Merging.{nothing, common_label, through, merge};
 ghost use Rattle.shapes.specs.Shapes.{pattern_of, steps_in, WellFormed};
 ghost use Rattle.laws.specs.Children.{children_of};
+ghost use Rattle.covering.specs.PairNotes.{Noted};
 ghost use Rattle.offering.specs.Offers.{building_of, Built, IsBody};
 ghost use Rattle.merging.specs.PairWalk.{near_child};
 ghost use Rattle.merging.specs.Bodies.{body_for, body_at, Known};
@@ -45,15 +46,15 @@ fn common_label(l: u8, m: u8) -> u8
 // Two patterns that are merged: the bodies of their pairs of steps, as far as they were found, and what is noted of p laid
 // on q and of q laid on p.
 #[derive(Drop)]
-struct Merging {
+struct Merging<'a> {
     p: Pattern,
     q: Pattern,
-    bodies: [Option<Marked>; PAIRS],
-    there: Notes,
-    back: Notes,
+    bodies: &'a mut [Option<Marked>; PAIRS],
+    there: &'a mut Notes,
+    back: &'a mut Notes,
 }
 
-impl Merging {
+impl<'a> Merging<'a> {
     // What is built at the pair (v, w): all pairs below go by, v' ascending.
     #[cycle(across_body_at_build_at_new_body)]
     fn build_at(&mut self, v: usize, w: usize, own: usize) -> Marked
@@ -116,10 +117,10 @@ impl Merging {
         requires { Known self.old.p self.old.q self.old × (1 ≤ v) × (v ≤ self.old.p.count) × (1 ≤ w) × (w ≤ self.old.q.count) }
         ensures { IsBody result (body_for (steps_in self.old.p) (steps_in self.old.q) v w) × Known self.old.p self.old.q self.new }
     {
-        if lies_at(self.p, v, self.q, w, &mut self.there) {
+        if lies_at(self.p, v, self.q, w, self.there) {
             return taken(self.p, v);
         }
-        if lies_at(self.q, w, self.p, v, &mut self.back) {
+        if lies_at(self.q, w, self.p, v, self.back) {
             return taken(self.q, w);
         }
         let label = common_label(self.p.steps[v - 1].label, self.q.steps[w - 1].label);
@@ -127,31 +128,42 @@ impl Merging {
     }
 }
 
+// What is built at the roots of p and q, with the notes of both questions. It is never put into its caller's frame: a merge
+// that is one of the two clears no bodies.
+#[inline(never)]
+fn built(p: Pattern, q: Pattern, there: &mut Notes, back: &mut Notes) -> Marked
+    requires { WellFormed p × WellFormed q × Noted p q there.old × Noted q p back.old }
+    ensures { Built 0 result (through most_steps (children_of (steps_in p) 0) true 0 (children_of (steps_in q) 0) nothing) }
+{
+    let mut bodies = [None; PAIRS];
+    let mut merging = Merging {
+        p,
+        q,
+        bodies: &mut bodies,
+        there,
+        back,
+    };
+    merging.build_at(0, 0, 0)
+}
+
 // The merge of p with q.
 pub fn merge(p: Pattern, q: Pattern) -> Marked
     requires { WellFormed p × WellFormed q }
     ensures { IsMerge result (merge (pattern_of p) (pattern_of q)) }
 {
-    let mut there = [None; PAIRS];
+    let mut there = [0; PAIRS];
     if covers_noting(p, q, &mut there) {
         return Marked {
             pattern: p,
             clipped: false,
         };
     }
-    let mut back = [None; PAIRS];
+    let mut back = [0; PAIRS];
     if covers_noting(q, p, &mut back) {
         return Marked {
             pattern: q,
             clipped: false,
         };
     }
-    let mut merging = Merging {
-        p,
-        q,
-        bodies: [None; PAIRS],
-        there,
-        back,
-    };
-    merging.build_at(0, 0, 0)
+    built(p, q, &mut there, &mut back)
 }

@@ -1,9 +1,6 @@
 -- `merging::merge` meets its contract: one covers the other, or it is built at the roots, with the notes of both questions.
-use mathlib.Core.Path.{refl}
 use mathlib.Core.Bool.{true}
-use native.Mathlib.Omega.{arith}
 use Rattle.covering.specs.PairNotes.{nothing-noted}
-use Rattle.merging.specs.Bodies.{nothing_known}
 use Rattle.merging.specs.Merges.{merges-first, merges-second, merges-built}
 use Rattle.merging.proofs.merge.Goals as goal
 
@@ -23,17 +20,12 @@ pub returns-then-covers_noting-2 : goal.returns-then-covers_noting-2
 returns-then-covers_noting-2 c =
     merges-second _ _ _ _ c.covers_noting.ensures.0 c.if-covers_noting.false c.covers_noting-2.ensures.0 c.requires.1 c.if-covers_noting-2.true
 
--- the search finds the notes that fit the order of the two
-pub build_at-requires : goal.build_at-requires
-build_at-requires c =
+pub built-requires : goal.built-requires
+built-requires c =
     let onto = c.covers_noting.ensures.1 in
-    let from = c.covers_noting-2.ensures.1 in (
-      record { first = refl; second = refl; bodies = nothing_known _ _; onto = search (onto, from); from = search (onto, from) },
-      omega arith,
-      omega arith,
-      omega arith,
-    )
+    let from = c.covers_noting-2.ensures.1 in
+    (c.requires.0, c.requires.1, onto, from)
 
 pub returns : goal.returns
 returns c =
-    merges-built _ _ _ _ c.covers_noting.ensures.0 c.if-covers_noting.false c.covers_noting-2.ensures.0 c.if-covers_noting-2.false _ c.build_at.ensures.0
+    merges-built _ _ _ _ c.covers_noting.ensures.0 c.if-covers_noting.false c.covers_noting-2.ensures.0 c.if-covers_noting-2.false _ c.built.ensures
